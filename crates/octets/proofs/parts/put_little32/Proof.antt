@@ -1,0 +1,49 @@
+use lib.Seq.{sets-eq}
+use lib.ListN.{length-set}
+use native.Mathlib.Numerals.{add-one}
+use Rattle.octets.proofs.Puts.{put-fits, put-not}
+use Rattle.octets.specs.Fields.{little}
+use mathlib.Core.Path.{_∙_}
+use native.Mathlib.Omega.{arith}
+use borrow.Author.Needs.{needs}
+use Rattle.octets.proofs.parts.put_little32.Statement.{statement}
+use Rattle.octets.proofs.parts.put_little32.Tie as tie
+
+returns : tie.Need-returns
+returns c = put-not (c .before .args .out .now) _ (little 4 (c .before .args .n)) (omega arith)
+
+returns-2 : tie.Need-returns-2
+returns-2 c = put-not (c .before .before .args .out .now) _ (little 4 (c .before .before .args .n)) (omega arith)
+
+slice-write-out-2 : tie.Need-slice-write-out-2
+slice-write-out-2 c = simp length-set (omega arith)
+
+slice-write-out-3 : tie.Need-slice-write-out-3
+slice-write-out-3 c = simp length-set (omega arith)
+
+slice-write-out-4 : tie.Need-slice-write-out-4
+slice-write-out-4 c = simp length-set (omega arith)
+
+returns-3 : tie.Need-returns-3
+returns-3 c = simp add-one (sets-eq (little 4 (c .before .before .args .n)) (c .before .before .args .out .now) (c .before .before .args .at) (omega arith)) ∙ put-fits (c .before .before .args .out .now) _ (little 4 (c .before .before .args .n)) (omega arith)
+
+pub put-little32-spec : {M : Type 1} → statement M
+put-little32-spec =
+    tie.close
+    (tie.spec
+    returns
+    (λ c. search needs)
+    returns-2
+    (λ c. search needs)
+    (λ c. search needs)
+    (λ c. search needs)
+    (λ c. search needs)
+    (λ c. search needs)
+    (λ c. search needs)
+    slice-write-out-2
+    (λ c. search needs)
+    slice-write-out-3
+    (λ c. search needs)
+    slice-write-out-4
+    (λ c. search needs)
+    returns-3)
