@@ -11,7 +11,7 @@ pub record Reason : Type 1 where
   pub when : Type 0
   pub why : ℕ
 
-infix 6 _refuses_
+infix 68 _refuses_
 abbrev pub _refuses_ : Type 0 → ℕ → Reason
 p refuses k = record { when = p; why = k }
 

@@ -9,7 +9,10 @@ returns : tie.Need-returns
 returns c = sym (field-past (c .before .before .args .s .now) _ 2 (c .if1 .taken))
 
 returns-2 : tie.Need-returns-2
-returns-2 c = omega (arith, c .before .byte .ensures .0, c .byte2 .ensures .0, c .before .byte .ensures .1, c .byte2 .ensures .1, field-two (c .before .before .before .before .args .s .now) (c .before .before .before .before .args .at))
+returns-2 c =
+    let a = c .before .before .before .before .args in
+    let byte = c .before .byte in
+    omega (arith, byte .ensures .0, c .byte2 .ensures .0, byte .ensures .1, c .byte2 .ensures .1, field-two (a .s .now) (a .at))
 
 pub little16-spec : {M : Type 1} → statement M
 little16-spec =

@@ -19,8 +19,10 @@ loop-holds c = (search needs, paste-zero (c .args .out .now) (c .args .at) (c .a
 
 slice-write-out : tie.Need-slice-write-out Inv-loop μ-loop
 slice-write-out c =
-    let l = c .before .before .loop in
-    let a = c .before .before .before .args in
+    let args = c .before .before .before .args in
+    let loop = c .before .before .loop in
+    let l = loop in
+    let a = args in
     let e : length (l .out) ≡ length (a .out .now) = ap length (l .inv .1) ∙ length-paste (a .out .now) (a .at) (a .src .now) (l .i) (omega arith) (omega arith) in
     omega arith
 

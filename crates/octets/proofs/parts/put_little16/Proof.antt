@@ -19,7 +19,9 @@ slice-write-out-2 : tie.Need-slice-write-out-2
 slice-write-out-2 c = simp length-set (omega arith)
 
 returns-3 : tie.Need-returns-3
-returns-3 c = simp add-one (sets-eq (little 2 (c .before .before .args .n)) (c .before .before .args .out .now) (c .before .before .args .at) (omega arith)) ∙ put-fits (c .before .before .args .out .now) _ (little 2 (c .before .before .args .n)) (omega arith)
+returns-3 c =
+    let a = c .before .before .args in
+    simp add-one (sets-eq (little 2 (a .n)) (a .out .now) (a .at) (omega arith)) ∙ put-fits (a .out .now) _ (little 2 (a .n)) (omega arith)
 
 pub put-little16-spec : {M : Type 1} → statement M
 put-little16-spec =

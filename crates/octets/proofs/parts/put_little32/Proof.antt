@@ -25,7 +25,9 @@ slice-write-out-4 : tie.Need-slice-write-out-4
 slice-write-out-4 c = simp length-set (omega arith)
 
 returns-3 : tie.Need-returns-3
-returns-3 c = simp add-one (sets-eq (little 4 (c .before .before .args .n)) (c .before .before .args .out .now) (c .before .before .args .at) (omega arith)) ∙ put-fits (c .before .before .args .out .now) _ (little 4 (c .before .before .args .n)) (omega arith)
+returns-3 c =
+    let a = c .before .before .args in
+    simp add-one (sets-eq (little 4 (a .n)) (a .out .now) (a .at) (omega arith)) ∙ put-fits (a .out .now) _ (little 4 (a .n)) (omega arith)
 
 pub put-little32-spec : {M : Type 1} → statement M
 put-little32-spec =
