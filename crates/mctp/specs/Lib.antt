@@ -1,0 +1,4 @@
+pub mod Kind
+pub mod Led
+pub mod Application
+pub mod Message
