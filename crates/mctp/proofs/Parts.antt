@@ -42,18 +42,21 @@ module _ (byte : ℕ) (rest out : List ℕ) where
 -- ---- what stands behind a byte
 
 module _ (why : ℕ) (bytes : List ℕ) where
+  -- on a refusal nothing is handed out
   pub behind-no : (why ≡ 0 → ⊥) → [] ≡ behind why bytes
   unfolding behind
   behind-no h = sym (given-no (drop 1 bytes) (λ (k : ℕ). []) why h)
 
-  pub behind-empty : why ≡ 0 → length bytes ≡ 0 → bytes ≡ behind why bytes
+  -- with the answer 0 it is all behind the first byte
+  pub behind-ok : why ≡ 0 → drop 1 bytes ≡ behind why bytes
   unfolding behind
-  behind-empty e h =
-      drop-of-length-le bytes {i = 0} (omega arith)
-      ∙ sym (drop-of-length-le bytes {i = 1} (omega arith))
-      ∙ sym (given-ok (drop 1 bytes) (λ (k : ℕ). []) why e)
+  behind-ok e = sym (given-ok (drop 1 bytes) (λ (k : ℕ). []) why e)
 
+  -- which is nothing where there is no byte
+  pub behind-empty : why ≡ 0 → length bytes ≡ 0 → bytes ≡ behind why bytes
+  behind-empty e h =
+      drop-of-length-le bytes {i = 0} (omega arith) ∙ sym (drop-of-length-le bytes {i = 1} (omega arith)) ∙ behind-ok e
+
+  -- the same, as the code takes it
   pub behind-all : why ≡ 0 → take (length bytes - 1) (drop 1 bytes) ≡ behind why bytes
-  unfolding behind
-  behind-all e =
-      rw (← length-drop) (take-length (drop 1 bytes)) ∙ sym (given-ok (drop 1 bytes) (λ (k : ℕ). []) why e)
+  behind-all e = rw (← length-drop) (take-length (drop 1 bytes)) ∙ behind-ok e

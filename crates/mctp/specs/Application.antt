@@ -4,14 +4,14 @@ use Prim.Native.Nat.{ℕ}
 use mathlib.Core.Bool.{Bool, false, _||_}
 use mathlib.Core.List.{List, [], _∷_}
 use lib.Dec.{ltb, eqb}
-use lib.ListN.{length, getD}
+use lib.ListN.{length}
 use Rattle.answers.specs.Refusal as Refusal
 use Rattle.answers.specs.Table.{Check, first, given}
 use Rattle.mctp.specs.declared.application.Data.{Data}
 use Rattle.mctp.specs.declared.led.Wrote.{Wrote}
 use Rattle.mctp.specs.Kind as Kind
 use Rattle.mctp.specs.Kind.{byteOf, integrityOf, kindOf}
-use Rattle.mctp.specs.Led.{roomRows, writes, behind}
+use Rattle.mctp.specs.Led.{roomRows, writes, lead, behind}
 
 -- ---- writing
 
@@ -28,12 +28,9 @@ wrapData integrity kind body out = writes (wrapRows integrity kind body out) (da
 
 -- ---- reading
 
-abbrev pub typeByte : List ℕ → ℕ
-typeByte app = getD app 0 0
-
 -- empty data, or inner type 6
 unfoldable pub unwrapRows : List ℕ → List Check
-unwrapRows app = (eqb (length app) 0 || eqb (kindOf (typeByte app)) Kind.Barred, Refusal.Wrapped) ∷ []
+unwrapRows app = (eqb (length app) 0 || eqb (kindOf (lead app)) Kind.Barred, Refusal.Wrapped) ∷ []
 
 abbrev pub noData : ℕ → Data
 noData why = record { answer = why; integrity = false; kind = 0 }
@@ -41,7 +38,7 @@ noData why = record { answer = why; integrity = false; kind = 0 }
 unfoldable pub readData : List ℕ → Data
 readData app =
     given (first (unwrapRows app))
-    (record { answer = 0; integrity = integrityOf (typeByte app); kind = kindOf (typeByte app) })
+    (record { answer = 0; integrity = integrityOf (lead app); kind = kindOf (lead app) })
     noData
 
 abbrev pub bodyOf : List ℕ → List ℕ

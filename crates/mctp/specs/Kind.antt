@@ -19,11 +19,14 @@ Largest = 127
 abbrev pub Integrity : ℕ
 Integrity = 128
 
+-- the byte of the bit and a type
 unfoldable pub byteOf : Bool → ℕ → ℕ
 byteOf integrity kind = cond integrity (Integrity + kind) kind
 
+-- the top bit of a byte
 unfoldable pub integrityOf : ℕ → Bool
-integrityOf byte = eqb (byte / 128) 1
+integrityOf byte = eqb (byte / Integrity) 1
 
+-- the low seven bits
 unfoldable pub kindOf : ℕ → ℕ
-kindOf byte = byte % 128
+kindOf byte = byte % Integrity

@@ -3,7 +3,7 @@
 use Prim.Native.Nat.{ℕ}
 use mathlib.Core.List.{List, [], _∷_}
 use lib.Dec.{ltb}
-use lib.ListN.{length, drop}
+use lib.ListN.{length, drop, getD}
 use Rattle.answers.specs.Refusal as Refusal
 use Rattle.answers.specs.Table.{Check, first, given}
 use Rattle.octets.specs.Parts.{over}
@@ -20,6 +20,10 @@ roomRows bytes out = (ltb (length out) (length bytes), Refusal.Room) ∷ []
 unfoldable pub writes : List Check → List ℕ → List ℕ → Wrote × List ℕ
 writes rows bytes out =
     given (first rows) (record { answer = 0; length = length bytes }, over out 0 bytes) (λ why. (noneWrote why, out))
+
+-- the first byte
+abbrev pub lead : List ℕ → ℕ
+lead bytes = getD bytes 0 0
 
 -- all behind the first byte, or nothing on a refusal
 unfoldable pub behind : ℕ → List ℕ → List ℕ

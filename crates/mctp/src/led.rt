@@ -11,7 +11,7 @@ pub struct Wrote {
 }
 
 impl Wrote {
-    pub fn refused(why: u8) -> Wrote
+    pub(crate) fn refused(why: u8) -> Wrote
         ensures { λ r. ⌜ r ≡ noneWrote why ⌝ }
     {
         Wrote {
@@ -22,7 +22,7 @@ impl Wrote {
 }
 
 // `byte` and then `rest` at the start of `out`. The check 17.
-pub fn put_led(byte: u8, rest: &[u8], out: &mut [u8]) -> Wrote
+pub(crate) fn put_led(byte: u8, rest: &[u8], out: &mut [u8]) -> Wrote
     ensures { λ r. ⌜ (r, now (out .exit)) ≡ writes (roomRows (byte ∷ now (rest .entry)) (now (out .entry))) (byte ∷ now (rest .entry)) (now (out .entry)) ⌝ }
 {
     let short = out.len() <= rest.len();
@@ -38,7 +38,7 @@ pub fn put_led(byte: u8, rest: &[u8], out: &mut [u8]) -> Wrote
 }
 
 // All behind the first byte, or nothing where the answer is a refusal.
-pub fn behind<'a>(answer: u8, bytes: &'a [u8]) -> &'a [u8]
+pub(crate) fn behind<'a>(answer: u8, bytes: &'a [u8]) -> &'a [u8]
     ensures { λ r. ⌜ now r ≡ behind answer (now (bytes .entry)) ⌝ }
 {
     if answer != 0 {

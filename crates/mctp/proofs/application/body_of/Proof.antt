@@ -1,3 +1,5 @@
+-- `body_of` hands out what stands behind the first byte, by the answer of `read_data`.
+-- Assumes nothing.
 use mathlib.Core.Path.{_∙_}
 use borrow.Author.Needs.{needs}
 use Rattle.mctp.proofs.application.body_of.Statement.{statement}

@@ -1,3 +1,5 @@
+-- `byte_of` sets the top bit, which no type up to the largest has, so that it is added.
+-- Assumes nothing.
 use native.Mathlib.Omega.{arith}
 use lib.Bits.{or-shifted-r}
 use Rattle.mctp.specs.Kind.{byteOf}

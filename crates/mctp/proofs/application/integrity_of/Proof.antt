@@ -1,3 +1,5 @@
+-- `integrity_of` shifts the type's bits away, which divides by 128.
+-- Assumes nothing.
 use mathlib.Core.Path.{refl}
 use Rattle.mctp.specs.Kind.{integrityOf}
 use Rattle.mctp.proofs.application.integrity_of.Statement.{statement}

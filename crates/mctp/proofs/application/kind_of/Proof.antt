@@ -1,3 +1,5 @@
+-- `kind_of` masks the low seven bits, which is the remainder by 128.
+-- Assumes nothing.
 use lib.Bits.{and-mask}
 use Rattle.mctp.specs.Kind.{kindOf}
 use Rattle.mctp.proofs.application.kind_of.Statement.{statement}

@@ -1,3 +1,5 @@
+-- `read_data` answers as its table says: no byte, the barred type, or the two parts of the byte.
+-- Assumes nothing.
 use mathlib.Core.Path.{_∙_}
 use borrow.Author.Tests.{eq-eqb, ne-eqb}
 use Rattle.mctp.specs.Application.{unwrapRows, readData}

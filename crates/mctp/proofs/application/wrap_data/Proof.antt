@@ -1,3 +1,5 @@
+-- `wrap_data` refuses a type by its own row, and leaves the row for the room and the writing to `put_led`.
+-- Assumes nothing.
 use lib.Dec.{eqb, ltb}
 use Rattle.mctp.specs.Kind as Kind
 use mathlib.Core.Path.{_∙_}
@@ -14,7 +16,9 @@ unfolding writes wrapRows
 returns c = rw (c .refused .ensures, c .before .if1 .taken)
 
 byte-of-requires : tie.Need-byte-of-requires
-byte-of-requires c κs = ltb-false _ _ (or-neither (eqb (c .before .before .before .args .kind) Kind.Barred) (ltb Kind.Largest (c .before .before .before .args .kind)) (c .if1 .left) .1)
+byte-of-requires c κs =
+    let kind = c .before .before .before .args .kind in
+    ltb-false _ _ (or-neither (eqb kind Kind.Barred) (ltb Kind.Largest kind) (c .if1 .left) .1)
 
 returns-2 : tie.Need-returns-2
 unfolding writes wrapRows

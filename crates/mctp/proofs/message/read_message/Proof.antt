@@ -1,3 +1,5 @@
+-- `read_message` answers as its table says: no byte, or another than that of a secured message.
+-- Assumes nothing.
 use borrow.Author.Tests.{eq-eqb, ne-eqb}
 use Rattle.mctp.specs.Message.{frameRows}
 use borrow.Author.Needs.{needs}

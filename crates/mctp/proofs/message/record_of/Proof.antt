@@ -1,3 +1,5 @@
+-- `record_of` hands out what stands behind the first byte, by the answer of `read_message`.
+-- Assumes nothing.
 use mathlib.Core.Path.{_∙_}
 use borrow.Author.Needs.{needs}
 use Rattle.mctp.proofs.message.record_of.Statement.{statement}
