@@ -35,6 +35,7 @@ module _ (integrity : Bool) (kind : ℕ) (body : List ℕ) (low : kind ≤ Kind.
   unfolding behind
   body-read = rw data-read
 
+  -- a type that is allowed, with room for the body, is written and read back
   pub data-back : (out : List ℕ) → 1 + length body ≤ length out → DataBack integrity kind body (wrapData integrity kind body out)
   unfolding wrapRows roomRows
   data-back out room =
@@ -43,6 +44,7 @@ module _ (integrity : Bool) (kind : ℕ) (body : List ℕ) (low : kind ≤ Kind.
       let w = writes-all (wrapRows integrity kind body out) (dataOf integrity kind body) out none in
       record { wrote = w .0 ∙ ap (λ (n : ℕ). record { answer = 0; length = n }) (omega arith); read = ap readData (w .1) ∙ data-read; rest = ap bodyOf (w .1) ∙ body-read }
 
+-- a record with room is written and read back
 pub record-back : (rec out : List ℕ) → 1 + length rec ≤ length out → RecordBack rec (wrapRecord rec out)
 unfolding roomRows frameRows behind
 record-back rec out room =

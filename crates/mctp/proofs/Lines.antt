@@ -10,6 +10,7 @@ use Rattle.mctp.specs.Application.{unwrapRows, readData}
 use Rattle.mctp.specs.Message.{frameRows, readMessage}
 use Rattle.mctp.specs.Promises.{dataLines, messageLines, Along}
 
+-- one theorem for all of page 01's lines
 pub lines : (rest : List ℕ) → Along (λ app. readData app .answer) rest dataLines × Along readMessage rest messageLines
 unfolding readData unwrapRows kindOf frameRows
 lines rest = rw (eqb·suc-zero (length rest)) ((refl, (refl, (refl, (refl, tt)))), (refl, (refl, tt)))

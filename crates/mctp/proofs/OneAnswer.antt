@@ -15,6 +15,7 @@ use Rattle.mctp.proofs.message.record_of.Reads as record-of
 pub wrap-data-one : OneAnswer {B = Wrote × List ℕ} wrap-data.Post (λ κs x s. (x, s .1 .1 .1 .0 .now))
 wrap-data-one κs a x y s t p q = one p q
 
+-- the answer
 pub read-data-one : OneAnswer read-data.Post (λ κs x s. x)
 read-data-one κs a x y s t p q = one p q
 
@@ -26,6 +27,7 @@ body-of-one κs a x y s t p q = one p q
 pub wrap-record-one : OneAnswer {B = Wrote × List ℕ} wrap-record.Post (λ κs x s. (x, s .1 .0 .now))
 wrap-record-one κs a x y s t p q = one p q
 
+-- the answer
 pub read-message-one : OneAnswer read-message.Post (λ κs x s. x)
 read-message-one κs a x y s t p q = one p q
 

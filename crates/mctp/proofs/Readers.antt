@@ -28,6 +28,7 @@ module _ (app : List ℕ) where
   unfolding readData
   read-refused n = given-no good noData (first (unwrapRows app)) (λ e. n (read-answer ∙ e)) ∙ ap noData (sym read-answer)
 
+  -- the reader of application data
   pub data-shown : DataShown app
   unfolding unwrapRows
   data-shown =
@@ -37,6 +38,7 @@ module _ (app : List ℕ) where
         within = rw read-answer (first-within Refusal.Largest (unwrapRows app) tt);
       }
 
+-- the reader of a message
 pub record-shown : (message : List ℕ) → RecordShown message
 unfolding frameRows
 record-shown message =

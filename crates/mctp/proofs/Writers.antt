@@ -37,6 +37,7 @@ module _ (rows : List Check) (bytes out : List ℕ) where
       let w = given-ok done (λ (why : ℕ). (noneWrote why, out)) (first rows) e in
       (ap (λ (x : Wrote × List ℕ). x .0) w, ap written w ∙ take-at bytes (drop (0 + length bytes) out) (length bytes) refl)
 
+  -- a writer whose refusals are page 01's touches only what it writes
   pub careful : T (within Refusal.Largest rows) → Careful out (writes rows bytes out)
   unfolding writes
   careful h =
@@ -52,10 +53,12 @@ module _ (rows : List Check) (bytes out : List ℕ) where
         within = rw writes-answer (first-within Refusal.Largest rows h);
       }
 
+-- the writer of application data
 pub wrap-data-careful : (integrity : Bool) (kind : ℕ) (body out : List ℕ) → Careful out (wrapData integrity kind body out)
 unfolding wrapRows roomRows
 wrap-data-careful integrity kind body out = careful (wrapRows integrity kind body out) (dataOf integrity kind body) out tt
 
+-- the writer of a message
 pub wrap-record-careful : (rec out : List ℕ) → Careful out (wrapRecord rec out)
 unfolding roomRows
 wrap-record-careful rec out = careful (roomRows (messageOf rec) out) (messageOf rec) out tt
