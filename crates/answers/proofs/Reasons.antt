@@ -6,7 +6,7 @@ use mathlib.Core.List.{List, [], _∷_, _++_}
 use mathlib.Core.Logic.{_⊎_, inl, inr}
 use mathlib.Core.Path.{_≡_, refl, sym, _∙_}
 use Rattle.answers.specs.Table.{Check, first}
-use Rattle.answers.specs.Reasons.{Reason, Answers, Tells, Told}
+use Rattle.answers.specs.Reasons.{Reason, Answers, Decided, Tells, Told}
 
 -- one row
 pub told-row : {b : Bool} {p : Type 0} {k : ℕ} → Tells b p → Tells b p × (k ≡ k)
@@ -22,7 +22,7 @@ answers-step : (b : Bool) (n m k : ℕ) (p A : Type 0) → Tells b p → (m ≡ 
 answers-step true n m k p A t f e = inl (t .holds refl, sym e)
 answers-step false n m k p A t f e = inr (t .fails refl, f e)
 
-pub answers : (ts : List Check) (ps : List Reason) → Told ts ps → (k : ℕ) → first ts ≡ k → Answers k ps
+answers : (ts : List Check) (ps : List Reason) → Told ts ps → (k : ℕ) → first ts ≡ k → Answers k ps
 answers [] [] a k e = sym e
 answers [] (p ∷ ps) a k e = absurd a
 answers (t ∷ ts) [] a k e = absurd a
@@ -35,9 +35,13 @@ answered-step true n m k p A t f (inr h) = absurd (h .0 (t .holds refl))
 answered-step false n m k p A t f (inl h) = absurd (t .fails refl (h .0))
 answered-step false n m k p A t f (inr h) = f (h .1)
 
-pub answered : (ts : List Check) (ps : List Reason) → Told ts ps → (k : ℕ) → Answers k ps → first ts ≡ k
+answered : (ts : List Check) (ps : List Reason) → Told ts ps → (k : ℕ) → Answers k ps → first ts ≡ k
 answered [] [] a k h = sym h
 answered [] (p ∷ ps) a k h = absurd a
 answered (t ∷ ts) [] a k h = absurd a
 answered (t ∷ ts) (p ∷ ps) a k h =
     rw (a .0 .1) (answered-step (t .0) (p .why) (first ts) k (p .when) (Answers k ps) (a .0 .0) (answered ts ps (a .1) k) h)
+
+-- a call whose answer is its table's is decided by the reasons that the table tells
+pub decided : (ts : List Check) (ps : List Reason) → Told ts ps → (a : ℕ) → a ≡ first ts → Decided a ps
+decided ts ps t a e k = (λ h. answers ts ps t k (sym e ∙ h), λ h. e ∙ answered ts ps t k h)

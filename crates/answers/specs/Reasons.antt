@@ -20,6 +20,10 @@ abbrev pub Answers : ℕ → List Reason → Type 0
 Answers k [] = k ≡ 0
 Answers k (p ∷ ps) = (p .when × (k ≡ p .why)) ⊎ ((p .when → ⊥) × Answers k ps)
 
+-- a call's answer is k exactly where k's reason holds and none before it does, and 0 exactly where none holds
+abbrev pub Decided : ℕ → List Reason → Type 0
+Decided answer reasons = (k : ℕ) → (answer ≡ k → Answers k reasons) × (Answers k reasons → answer ≡ k)
+
 -- the test b holds exactly where p does
 pub record Tells (b : Bool) (p : Type 0) : Type 0 where
   pub holds : b ≡ true → p

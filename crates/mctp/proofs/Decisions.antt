@@ -3,13 +3,12 @@
 use Prim.Native.Nat.{ℕ, _+_, _<_}
 use mathlib.Core.Bool.{Bool}
 use mathlib.Core.List.{List, [], _∷_}
-use mathlib.Core.Path.{_≡_, refl, sym, ap, _∙_}
+use mathlib.Core.Path.{_≡_, refl, ap}
 use native.Mathlib.Omega.{arith}
 use lib.Dec.{eqb, ltb}
 use lib.ListN.{length, drop-of-length-le}
-use Rattle.answers.specs.Table.{Check, first}
-use Rattle.answers.specs.Reasons.{Reason, Tells, Told}
-use Rattle.answers.proofs.Reasons.{told-row, answers, answered}
+use Rattle.answers.specs.Reasons.{Decided, Tells}
+use Rattle.answers.proofs.Reasons.{told-row, decided}
 use Rattle.answers.proofs.Tests.{tells-lt, tells-eq, tells-or, tells-differ}
 use Rattle.mctp.specs.Kind as Kind
 use Rattle.mctp.specs.Kind.{byteOf, kindOf}
@@ -17,12 +16,8 @@ use Rattle.mctp.specs.Led.{roomRows, lead}
 use Rattle.mctp.specs.Application.{wrapRows, wrapData, unwrapRows, readData}
 use Rattle.mctp.specs.Message.{messageOf, wrapRecord, frameRows, readMessage}
 use Rattle.mctp.specs.Reasons.{wrapDataReasons, readDataReasons, wrapRecordReasons, readMessageReasons}
-use Rattle.mctp.specs.Promises.{Decided}
 use Rattle.mctp.proofs.Writers.{writes-answer}
 use Rattle.mctp.proofs.Readers.{read-answer}
-
-decided : (ts : List Check) (ps : List Reason) → Told ts ps → (a : ℕ) → a ≡ first ts → Decided a ps
-decided ts ps t a e k = (λ h. answers ts ps t k (sym e ∙ h), λ h. e ∙ answered ts ps t k h)
 
 tells-empty : (xs : List ℕ) → Tells (eqb (length xs) 0) (xs ≡ [])
 tells-empty xs =

@@ -6,15 +6,10 @@ use mathlib.Core.List.{List, [], _∷_}
 use mathlib.Core.Path.{_≡_}
 use lib.ListN.{length, take, drop}
 use Rattle.answers.specs.Refusal as Refusal
-use Rattle.answers.specs.Reasons.{Reason, Answers}
 use Rattle.mctp.specs.declared.led.Wrote.{Wrote}
 use Rattle.mctp.specs.Led.{noneWrote}
 use Rattle.mctp.specs.Application.{noData, readData, bodyOf}
 use Rattle.mctp.specs.Message.{readMessage, recordOf}
-
--- a call's answer is k exactly where k's reason holds and none before it does, and 0 exactly where none holds
-abbrev pub Decided : ℕ → List Reason → Type 0
-Decided answer reasons = (k : ℕ) → (answer ≡ k → Answers k reasons) × (Answers k reasons → answer ≡ k)
 
 -- a writer's answer and buffer at exit, where the buffer was `out`: nothing past what it wrote is touched, and a refusal has
 -- the length 0 and leaves the buffer as it was

@@ -14,18 +14,18 @@ use Rattle.mctp.specs.Led.{lead}
 -- inner type 6, or a type above 127; the output buffer is shorter than the total
 abbrev pub wrapDataReasons : ℕ → List ℕ → List ℕ → List Reason
 wrapDataReasons kind body out =
-    (((kind ≡ Kind.Barred) ⊎ (Kind.Largest < kind)) refuses Refusal.Wrapped)
-    ∷ ((length out < 1 + length body) refuses Refusal.Room)
+    ((kind ≡ Kind.Barred) ⊎ (Kind.Largest < kind)) refuses Refusal.Wrapped
+    ∷ (length out < 1 + length body) refuses Refusal.Room
     ∷ []
 
 -- empty data, or inner type 6
 abbrev pub readDataReasons : List ℕ → List Reason
-readDataReasons app = (((app ≡ []) ⊎ (kindOf (lead app) ≡ Kind.Barred)) refuses Refusal.Wrapped) ∷ []
+readDataReasons app = ((app ≡ []) ⊎ (kindOf (lead app) ≡ Kind.Barred)) refuses Refusal.Wrapped ∷ []
 
 -- the output buffer is shorter than the total
 abbrev pub wrapRecordReasons : List ℕ → List ℕ → List Reason
-wrapRecordReasons rec out = ((length out < 1 + length rec) refuses Refusal.Room) ∷ []
+wrapRecordReasons rec out = (length out < 1 + length rec) refuses Refusal.Room ∷ []
 
 -- the message is empty, or its first byte is not 0x06
 abbrev pub readMessageReasons : List ℕ → List Reason
-readMessageReasons message = (((message ≡ []) ⊎ (lead message ≡ Kind.Secured → ⊥)) refuses Refusal.Frame) ∷ []
+readMessageReasons message = ((message ≡ []) ⊎ (lead message ≡ Kind.Secured → ⊥)) refuses Refusal.Frame ∷ []
