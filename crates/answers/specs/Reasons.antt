@@ -3,7 +3,7 @@
 use Prim.Native.Nat.{ℕ}
 use mathlib.Core.Bool.{Bool, true, false}
 use mathlib.Core.List.{List, [], _∷_}
-use mathlib.Core.Logic.{_⊎_}
+use mathlib.Core.Logic.{_⊎_, _↔_}
 use mathlib.Core.Path.{_≡_}
 use Rattle.answers.specs.Table.{Check}
 
@@ -22,7 +22,7 @@ Answers k (p ∷ ps) = (p .when × (k ≡ p .why)) ⊎ ((p .when → ⊥) × Ans
 
 -- a call's answer is k exactly where k's reason holds and none before it does, and 0 exactly where none holds
 abbrev pub Decided : ℕ → List Reason → Type 0
-Decided answer reasons = (k : ℕ) → (answer ≡ k → Answers k reasons) × (Answers k reasons → answer ≡ k)
+Decided answer reasons = (k : ℕ) → (answer ≡ k) ↔ Answers k reasons
 
 -- the test b holds exactly where p does
 pub record Tells (b : Bool) (p : Type 0) : Type 0 where
