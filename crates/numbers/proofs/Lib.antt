@@ -7,3 +7,7 @@ pub mod Gaps
 pub mod Memory
 pub mod Nearest
 pub mod Calls
+pub mod Laws
+pub mod Told
+pub mod Rows
+pub mod OneAnswer

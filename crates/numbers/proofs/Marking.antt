@@ -10,6 +10,7 @@ use lib.Dec.{leb, ltb, eqb}
 use lib.Pow.{pow-pos, pow-mono, shl-lt}
 use borrow.Author.Tests.{lt-ltb, le-ltb, le-leb, lt-leb, eq-eqb, ne-eqb, leb-true, ltb-true}
 use Rattle.answers.specs.Refusal as Refusal
+use Rattle.answers.proofs.Tests.{true-not-false}
 use Rattle.numbers.specs.Word.{bit, setBit}
 use Rattle.numbers.specs.Window.{marked, verdict, markNext, markWord, sound}
 use Rattle.numbers.proofs.Bits.{set-bit, set-lt, high-bit, mod-bit, shl-bit-low, shl-bit-high}
@@ -24,6 +25,22 @@ marked-at e m k h = simp (lt-ltb k e h)
 pub marked-past : (e m k : ℕ) → e ≤ k → marked e m k ≡ false
 unfolding marked
 marked-past e m k h = simp (le-ltb k e h)
+
+-- what is marked lies below e
+pub marked-below : (e m k : ℕ) → marked e m k ≡ true → k < e
+marked-below e m k h = go (decLt k e)
+  where
+    go : Dec (k < e) → k < e
+    go (yes p) = p
+    go (no p) = absurd (true-not-false h (marked-past e m k (omega arith)))
+
+-- and within the width
+pub marked-within : (w e m k : ℕ) → m < 2 ^ w → marked e m k ≡ true → e ≤ k + w
+marked-within w e m k f h = go (decLe e (k + w))
+  where
+    go : Dec (e ≤ k + w) → e ≤ k + w
+    go (yes p) = p
+    go (no p) = absurd (true-not-false h (marked-at e m k (omega arith) ∙ high-bit w m (e - 1 - k) f (omega arith)))
 
 -- a number at or past e: the word is moved up, and bit 0 is set
 ahead-marked : (w e m n k : ℕ) → 0 < w → e ≤ n

@@ -87,6 +87,17 @@ pub raised-is : (e n : ℕ) → n < 65536 → e + 32768 ≤ n → n ≡ nearest 
 unfolding lowOf raised
 raised-is e n h p = omega (arith, nearest-of e n (negsuc (65535 - n)) h (to-near e (negsuc (65535 - n)) (omega arith)) (omega arith))
 
+-- the number meant has the low bits that were given
+pub nearest-low : (e low : ℕ) → low < 65536 → nearest e low % 65536 ≡ low
+unfolding lowOf raised
+nearest-low e low h =
+    let o = nearest-is e low h in
+    go (o .0) (from-near e (o .0) (o .1)) (o .2) (o .3)
+  where
+    go : (z : ℤ) → Inside e z → lowOf z ≡ low → raised z ≡ nearest e low → nearest e low % 65536 ≡ low
+    go (pos n) p q r = omega arith
+    go (negsuc k) p q r = omega arith
+
 -- a number stays the nearest to its own low bits once it is marked
 pub nearest-again : (e low : ℕ) → low < 65536 → nearest (max e (nearest e low + 1)) low ≡ nearest e low
 unfolding lowOf raised
