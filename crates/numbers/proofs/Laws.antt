@@ -19,15 +19,18 @@ use Rattle.numbers.specs.Number.{nearest, numberRows}
 use Rattle.numbers.specs.Word.{most, wordOf}
 use Rattle.numbers.specs.Window.{verdict, markNext, markWord}
 use Rattle.numbers.specs.Contract.{widthOf, windowOf, emptyWindow, isEmpty, seenBy, soundWindow, noPlace, judged, placed, after, gapsOf}
-use Rattle.numbers.specs.Memory.{member, nextOf, plainVerdict, plainGaps, Remembers, Below, afterAll}
-pub use Rattle.numbers.proofs.Word.{Typed}
+use Rattle.numbers.specs.Memory.{member, plainVerdict, plainGaps, Remembers, Below, afterAll}
+pub use Rattle.numbers.proofs.Word.{Typed, word-lt}
 pub use Rattle.numbers.proofs.Adaptor.{width-pos, width-le, width-half, width-most, next-after}
-use Rattle.numbers.proofs.Word.{typed-of, word-lt}
+pub use Rattle.numbers.proofs.Cases.{spent-first, old-first, seen-first, first-agree}
+pub use Rattle.numbers.proofs.Gaps.{gaps-agree}
+pub use Rattle.numbers.proofs.Memory.{member-below}
+pub use Rattle.numbers.proofs.Nearest.{nearest-low, nearest-again, near-exactly}
+use Rattle.numbers.proofs.Word.{typed-of}
 use Rattle.numbers.proofs.Adaptor.{word-of, word-fits, window-of, marked-lt, after-next, after-word}
 use Rattle.numbers.proofs.Cases.{next-is}
 use Rattle.numbers.proofs.Marking.{Sound, sound-parts, word-fits-width, marked-past, marked-below, marked-within, mark-law, mark-sound, mark-repeat, verdict-zero}
 use Rattle.numbers.proofs.Memory.{shows-empty, shows-mark, shows-verdict, shows-gaps, shows-one, shows-sound, sound-shows}
-use Rattle.numbers.proofs.Nearest.{nearest-again, near-exactly}
 
 -- every number of the window, and every one less than 32768 past it, is found from its low 16 bits
 pub found : (r : Rule) (e n : ℕ) → e ≤ n + widthOf r → n ≤ e + 32767 → nearest e (n % 65536) ≡ n
@@ -137,6 +140,7 @@ seen-below s k h = marked-below (s .next) (wordOf (s .marks)) k h
 
 -- ---- an empty window
 
+-- the empty window is empty
 pub empty-is : isEmpty emptyWindow ≡ true
 unfolding isEmpty windowOf
 empty-is = simp (word-of 0 0 (pow-pos most))
@@ -155,16 +159,19 @@ seen-none k = marked-past 0 _ k (omega arith)
 
 -- ---- what the types say is kept
 
+-- the empty window's word is one of its type
 pub typed-none : Typed (emptyWindow .marks)
 unfolding windowOf
 typed-none = typed-of 0 (pow-pos most)
 
-pub typed-after : (r : Rule) (s : Window) (n : ℕ) → Typed (s .marks) → Typed ((after r s n) .marks)
+-- and so is the word after a number is marked
+pub typed-after : (r : Rule) (s : Window) (n : ℕ) → wordOf (s .marks) < 2 ^ most → Typed ((after r s n) .marks)
 unfolding after windowOf
-typed-after r s n f = typed-of _ (marked-lt r s n (word-lt (s .marks) f))
+typed-after r s n h = typed-of _ (marked-lt r s n h)
 
 -- ---- a window and a plain memory
 
+-- the empty window shows the empty list
 pub remembers-none : (r : Rule) → Remembers r emptyWindow []
 unfolding windowOf
 remembers-none r = rw (word-of 0 0 (pow-pos most)) (shows-empty (widthOf r))
@@ -212,10 +219,11 @@ sound-remembers r s h = sound-shows (widthOf r) (r .limit) (s .next) (wordOf (s 
 
 -- ---- a run of marks
 
+-- a run keeps the word one of its type
 pub typed-all : (r : Rule) (xs : List ℕ) → Typed ((afterAll r xs) .marks)
 unfolding afterAll
 typed-all r [] = typed-none
-typed-all r (n ∷ xs) = typed-after r (afterAll r xs) n (typed-all r xs)
+typed-all r (n ∷ xs) = typed-after r (afterAll r xs) n (word-lt _ (typed-all r xs))
 
 -- the window after the numbers of a list are marked shows the list
 pub remembers-all : (r : Rule) (xs : List ℕ) → Below (r .limit) xs → Remembers r (afterAll r xs) xs
@@ -223,13 +231,14 @@ unfolding afterAll
 remembers-all r [] b = remembers-none r
 remembers-all r (n ∷ xs) b = remembers-after r (afterAll r xs) xs (remembers-all r xs (b .1)) n (b .0)
 
--- the sound windows are those that marking reaches
+-- every sound window is reached by marking
 pub sound-reached : (r : Rule) (s : Window) → Typed (s .marks) → soundWindow r s ≡ true → (xs : List ℕ) × Below (r .limit) xs × (s ≡ afterAll r xs)
 sound-reached r s f h =
     let o = sound-remembers r s h in
     let t = afterAll r (o .0) in
     (o .0, o .1, remembers-one r s (o .0) (o .2) t (o .0) f (typed-all r (o .0)) (λ k. refl) (remembers-all r (o .0) (o .1)))
 
+-- and every window that is reached is sound
 pub reached-sound : (r : Rule) (xs : List ℕ) → soundWindow r (afterAll r xs) ≡ true
 unfolding afterAll
 reached-sound r [] = sound-none r

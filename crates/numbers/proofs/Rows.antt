@@ -1,6 +1,6 @@
 -- Every row of page 01's table is what the definitions give: antt computes it.
 -- Assumes nothing.
-use Prim.Native.Nat.{ℕ, _^_, _<_}
+use Prim.Native.Nat.{_^_, _<_}
 use mathlib.Core.Bool.{Bool, true, false, cond}
 use mathlib.Core.Path.{_≡_, refl, _∙_}
 use mathlib.Core.List.{map}
@@ -9,7 +9,7 @@ use Rattle.answers.specs.Table.{given}
 use Rattle.numbers.specs.Number.{whole, nearest, numberRows}
 use Rattle.numbers.specs.Word.{most, bit}
 use Rattle.numbers.specs.Window.{marked, verdict}
-use Rattle.numbers.specs.Contract.{widthOf, windowOf, noPlace}
+use Rattle.numbers.specs.Contract.{widthOf, noPlace}
 use Rattle.numbers.specs.Table.{Row, rowWord, rowRule, answeredRow, worked, rows}
 use Rattle.numbers.proofs.Laws.{placed-of}
 

@@ -1,9 +1,9 @@
 -- The tests of one key tell page 01's conditions: the number rows their reasons, and `soundWindow` the rule of a window.
 -- Assumes nothing.
 use Prim.Native.Nat.{ℕ, _≤_, _<_, _^_, _-_, min}
-use mathlib.Core.Bool.{Bool, true, false, not, _||_}
+use mathlib.Core.Bool.{Bool, true, false, not}
 use mathlib.Core.Logic.{_⊎_, inl, inr}
-use mathlib.Core.Path.{_≡_, refl, sym, _∙_}
+use mathlib.Core.Path.{_≡_, refl, ap, _∙_}
 use native.Mathlib.Nat.{eq-zero-or-pos}
 use native.Mathlib.Omega.{arith}
 use native.Mathlib.Decide.{decLe}
@@ -17,9 +17,10 @@ use Rattle.numbers.specs.declared.window.Window.{Window}
 use Rattle.numbers.specs.Number.{numberRows}
 use Rattle.numbers.specs.Word.{bit, wordOf}
 use Rattle.numbers.specs.Window.{sound}
-use Rattle.numbers.specs.Contract.{widthOf, soundWindow}
+use Rattle.numbers.specs.Contract.{widthOf, emptyWindow, isEmpty, soundWindow}
 use Rattle.numbers.specs.Reasons.{numberReasons, Unsound}
 use Rattle.numbers.proofs.Bits.{high-bit, fits-or-bit}
+use Rattle.numbers.proofs.Laws.{Typed, empty-is, empty-only}
 use Rattle.numbers.proofs.Marking.{Sound, sound-parts, sound-whole, or-true}
 
 -- each number row tells its reason
@@ -67,3 +68,7 @@ module _ (w l e m : ℕ) where
 pub unsound-told : (r : Rule) (s : Window) → Tells (not (soundWindow r s)) (Unsound r s)
 unfolding soundWindow
 unsound-told r s = sound-told (widthOf r) (r .limit) (s .next) (wordOf (s .marks))
+
+-- a window is empty exactly where it is the empty window
+pub empty-told : (s : Window) → Typed (s .marks) → Tells (isEmpty s) (s ≡ emptyWindow)
+empty-told s f = record { holds = empty-only s f; fails = λ h p. true-not-false (ap isEmpty p ∙ empty-is) h }

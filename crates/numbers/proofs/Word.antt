@@ -1,7 +1,7 @@
 -- The window word: what its type says of it, and what each call of `Marks` makes. Here alone it matters what the word is made of.
 -- Assumes nothing.
 use Prim.Native.Nat.{ℕ, _-_, _*_, _/_, _%_, _^_, _≤_, _<_}
-use mathlib.Core.Bool.{Bool, false}
+use mathlib.Core.Bool.{false}
 use mathlib.Core.Path.{_≡_, refl, sym, ap, _∙_}
 use native.Mathlib.Nat.{mod-eq-of-lt, lt-of-lt-of-le}
 use lib.Bits.{bitAnd, bitOr, and-mask}

@@ -203,8 +203,8 @@ impl Window {
     {
         let marks = self.marks;
         let k = self.held(rule);
-        let low = marks.cut(k);
-        let marked = low.count();
+        let kept = marks.cut(k);
+        let marked = kept.count();
         k as u32 - marked
     }
 }
