@@ -39,6 +39,7 @@ module _ (r : Rule) where
 
 -- ---- a window and its word
 
+-- the word of a window that is made of numbers
 pub word-of : (e m : ℕ) → m < 2 ^ most → wordOf ((windowOf e m) .marks) ≡ m
 unfolding windowOf
 word-of e m h = word-marks m h
@@ -47,6 +48,7 @@ word-of e m h = word-marks m h
 pub word-fits : (r : Rule) (m : ℕ) → m < 2 ^ widthOf r → m < 2 ^ most
 word-fits r m h = lt-of-lt-of-le h (pow-mono (width-le r))
 
+-- a window is made of its two numbers
 pub window-of : (s : Window) → Typed (s .marks) → {e m : ℕ} → s .next ≡ e → wordOf (s .marks) ≡ m → s ≡ windowOf e m
 unfolding windowOf
 window-of s f {e} {m} p q i = record { next = p i; marks = t i }
@@ -60,6 +62,7 @@ module _ (r : Rule) (s : Window) (n : ℕ) where
   abbrev word : ℕ
   word = markWord (widthOf r) (r .limit) (s .next) (wordOf (s .marks)) n
 
+  -- the word stays one of its type as n is marked
   pub marked-lt : wordOf (s .marks) < 2 ^ most → word < 2 ^ most
   marked-lt h = go (decLt n (r .limit)) (decLe (s .next) n) (decLt (s .next - 1 - n) (widthOf r))
     where
@@ -74,10 +77,12 @@ module _ (r : Rule) (s : Window) (n : ℕ) where
       go (yes p) (no q) (no f) =
           rw (mark-old (widthOf r) (r .limit) (s .next) (wordOf (s .marks)) n p (omega arith) (omega arith) .1) h
 
+  -- the word after n is marked
   pub after-word : wordOf (s .marks) < 2 ^ most → wordOf ((after r s n) .marks) ≡ word
   unfolding after
   after-word h = word-of _ word (marked-lt h)
 
+  -- the next number after n is marked, by the definition
   pub after-next : (after r s n) .next ≡ markNext (r .limit) (s .next) n
   unfolding after windowOf
   after-next = refl

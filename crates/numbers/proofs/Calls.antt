@@ -33,6 +33,7 @@ window e m = record { next = e; marks = m }
 
 -- ---- empty
 
+-- the window that `empty` makes
 pub empty-of : {m : Marks} → m ≡ marksOf 0 → window 0 m ≡ emptyWindow
 unfolding windowOf
 empty-of e i = window 0 (e i)
@@ -44,12 +45,15 @@ module _ (r : Rule) (s : Window) (n : ℕ) where
   unfolding judged verdict seenBy
   judged-by e = sym (ap (λ (v : ℕ). given v (taken n) noPlace) e)
 
+  -- at the limit or past it
   pub judged-spent : {p : Placed} → p ≡ noPlace Refusal.Spent → r .limit ≤ n → p ≡ judged r s n
   judged-spent p h = p ∙ judged-by (verdict-spent _ _ _ _ _ h)
 
+  -- past all that was marked
   pub judged-ahead : n < r .limit → s .next ≤ n → taken n ≡ judged r s n
   judged-ahead h k = judged-by (verdict-ahead _ _ _ _ _ h k)
 
+  -- older than the width
   pub judged-old : {w : ℕ} {p : Placed} → p ≡ noPlace Refusal.Old → n < r .limit → n < s .next → w ≡ widthOf r → w ≤ s .next - 1 - n → p ≡ judged r s n
   judged-old p h k e o = p ∙ judged-by (verdict-old _ _ _ _ _ h k (omega arith))
 
@@ -58,9 +62,11 @@ module _ (r : Rule) (s : Window) (n : ℕ) where
     by-bit : {c : Bool} → b ≡ c → given (cond c Refusal.Repeat 0) (taken n) noPlace ≡ judged r s n
     by-bit q = judged-by (verdict-bit _ _ _ _ _ h k (omega arith) ∙ ap (λ (x : Bool). cond x Refusal.Repeat 0) (sym t ∙ q))
 
+    -- within the width and marked
     pub judged-repeat : {p : Placed} → p ≡ noPlace Refusal.Repeat → b ≡ true → p ≡ judged r s n
     judged-repeat p q = p ∙ by-bit q
 
+    -- within the width and not marked
     pub judged-new : b ≡ false → taken n ≡ judged r s n
     judged-new q = by-bit q
 
@@ -71,12 +77,15 @@ module _ (r : Rule) (s : Window) (n : ℕ) where
   unfolding after windowOf
   after-is p q i = window (sym (p .0) i) ((q ∙ sym (ap marksOf (p .1))) i)
 
+  -- at the limit or past it nothing changes
   pub after-spent : Typed (s .marks) → r .limit ≤ n → s ≡ after r s n
   after-spent f h = after-is (mark-spent _ _ _ _ _ h) (sym (marks-word (s .marks) f))
 
+  -- older than the width nothing changes
   pub after-old : {w : ℕ} → Typed (s .marks) → n < r .limit → n < s .next → w ≡ widthOf r → w ≤ s .next - 1 - n → s ≡ after r s n
   after-old f h k e o = after-is (mark-old _ _ _ _ _ h k (omega arith)) (sym (marks-word (s .marks) f))
 
+  -- within the width one bit is set
   pub after-within : {w : ℕ} {x : Marks} → Typed (s .marks) → n < r .limit → n < s .next → w ≡ widthOf r → s .next - 1 - n < w
       → x ≡ marksOf (setBit (wordOf (s .marks)) (s .next - 1 - n) % 2 ^ most) → window (s .next) x ≡ after r s n
   after-within f h k e o t =
@@ -84,6 +93,7 @@ module _ (r : Rule) (s : Window) (n : ℕ) where
       after-is (mark-within _ _ _ _ _ h k (omega arith))
       (t ∙ ap marksOf (mod-eq-of-lt (set-lt most (wordOf (s .marks)) (s .next - 1 - n) (word-lt (s .marks) f) (omega arith))))
 
+  -- past all that was marked the word is moved up, cut to the width, and bit 0 is set
   pub after-ahead : {w : ℕ} {u v x : Marks} → n < r .limit → s .next ≤ n → w ≡ widthOf r
       → u ≡ marksOf (wordOf (s .marks) * 2 ^ (n + 1 - s .next) % 2 ^ most) → v ≡ marksOf (wordOf u % 2 ^ w)
       → x ≡ marksOf (setBit (wordOf v) 0 % 2 ^ most) → window (n + 1) x ≡ after r s n
@@ -114,12 +124,14 @@ pub placed-spent : (r : Rule) (s : Window) (low : ℕ) {p : Placed} → p ≡ no
 unfolding placed
 placed-spent r s low p h = judged-spent r s (nearest (s .next) low) p h
 
+-- a number that is the nearest
 pub placed-at : (r : Rule) (s : Window) (low : ℕ) {n : ℕ} {p : Placed} → p ≡ judged r s n → n ≡ nearest (s .next) low → p ≡ placed r s low
 unfolding placed
 placed-at r s low p h = p ∙ ap (judged r s) h
 
 -- ---- is_empty
 
+-- the tests of `is_empty`
 pub empty-test : (s : Window) {o : Marks} {b : Bool} → b ≡ eqb (wordOf (s .marks)) (wordOf o) → o ≡ marksOf 0 → (eqb (s .next) 0 && b) ≡ isEmpty s
 unfolding isEmpty
 empty-test s p q =
@@ -131,6 +143,7 @@ module _ (r : Rule) (s : Window) {k : ℕ} {low : Marks} (f : Typed (s .marks)) 
   low-is : wordOf low ≡ wordOf (s .marks) % 2 ^ k
   low-is = ap wordOf c ∙ word-marks _ (lt-of-le-of-lt (mod-le (wordOf (s .marks)) (2 ^ k)) (word-lt (s .marks) f))
 
+  -- the tests of `sound`
   pub sound-test : {b t : Bool} → b ≡ eqb (wordOf (s .marks)) (wordOf low) → t ≡ bit (wordOf (s .marks)) 0
       → (leb (s .next) (r .limit) && b && (eqb (s .next) 0 || t)) ≡ soundWindow r s
   unfolding soundWindow sound
@@ -138,9 +151,11 @@ module _ (r : Rule) (s : Window) {k : ℕ} {low : Marks} (f : Typed (s .marks)) 
       ap₂ (λ (x y : Bool). leb (s .next) (r .limit) && x && (eqb (s .next) 0 || y))
       (p ∙ ap (eqb (wordOf (s .marks))) (low-is ∙ ap (λ (x : ℕ). wordOf (s .marks) % 2 ^ x) e) ∙ below-test (wordOf (s .marks)) (min (widthOf r) (s .next))) q
 
+  -- no more are marked than are held
   pub count-le : {o : ℕ} → o ≡ ones (wordOf low) → o ≤ k
   count-le p = omega (arith, p ∙ ap ones low-is, low-ones k (wordOf (s .marks)))
 
+  -- what is held less what is marked
   pub gaps-are : {o : ℕ} → o ≡ ones (wordOf low) → k - o ≡ gapsOf r s
   unfolding gapsOf
   gaps-are p = ap (λ (x : ℕ). k - x) (p ∙ ap ones low-is) ∙ gaps-ones (widthOf r) (s .next) (wordOf (s .marks)) e

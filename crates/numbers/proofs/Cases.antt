@@ -48,40 +48,49 @@ first-agree w l e seen other n h = go (decLt n l) (decLe e (n + w))
 -- ---- the window's cases
 
 module _ (w l e m n : ℕ) where
+  -- at the limit or past it: Spent
   pub verdict-spent : l ≤ n → verdict w l e m n ≡ Refusal.Spent
   unfolding verdict
   verdict-spent h = spent-first w l e (marked e m) n h
 
+  -- past all that was marked: taken
   pub verdict-ahead : n < l → e ≤ n → verdict w l e m n ≡ 0
   unfolding verdict marked
   verdict-ahead h k = seen-first w l e (marked e m) n h (omega arith) ∙ simp (le-ltb n e k)
 
+  -- older than the width: Old
   pub verdict-old : n < l → n < e → w ≤ e - 1 - n → verdict w l e m n ≡ Refusal.Old
   unfolding verdict
   verdict-old h k o = old-first w l e (marked e m) n h (omega arith)
 
+  -- within the width: its bit decides
   pub verdict-bit : n < l → n < e → e - 1 - n < w → verdict w l e m n ≡ cond (bit m (e - 1 - n)) Refusal.Repeat 0
   unfolding verdict marked
   verdict-bit h k o = seen-first w l e (marked e m) n h (omega arith) ∙ simp (lt-ltb n e k)
 
+  -- e after a usable number is marked
   pub next-is : n < l → markNext l e n ≡ max e (n + 1)
   unfolding markNext
   next-is h = simp (lt-leb l n h)
 
+  -- at the limit or past it nothing changes
   pub mark-spent : l ≤ n → (markNext l e n ≡ e) × (markWord w l e m n ≡ m)
   unfolding markNext markWord
   mark-spent h = (simp (le-leb l n h), simp (le-leb l n h))
 
+  -- past all that was marked the word is moved up and bit 0 is set
   pub mark-ahead : n < l → e ≤ n → (markNext l e n ≡ n + 1) × (markWord w l e m n ≡ setBit (m * 2 ^ (n + 1 - e) % 2 ^ w) 0)
   unfolding markNext markWord
   mark-ahead h k = (simp (lt-leb l n h) (omega arith), simp (lt-leb l n h, le-leb e n k))
 
+  -- older than the width nothing changes
   pub mark-old : n < l → n < e → w ≤ e - 1 - n → (markNext l e n ≡ e) × (markWord w l e m n ≡ m)
   unfolding markNext markWord
   mark-old h k o =
       let p : w < e - n = omega arith in
       (simp (lt-leb l n h) (omega arith), simp (lt-leb l n h, lt-leb e n k, lt-ltb w (e - n) p))
 
+  -- within the width its bit is set
   pub mark-within : n < l → n < e → e - 1 - n < w → (markNext l e n ≡ e) × (markWord w l e m n ≡ setBit m (e - 1 - n))
   unfolding markNext markWord
   mark-within h k o =
@@ -95,6 +104,7 @@ pub nearest-pos : (e low : ℕ) → 65536 ≤ whole e low → nearest e low ≡ 
 unfolding nearest
 nearest-pos e low h = simp (le-leb 65536 (whole e low) h)
 
+-- and where that is negative
 pub nearest-neg : (e low : ℕ) → whole e low < 65536 → nearest e low ≡ whole e low
 unfolding nearest
 nearest-neg e low h = simp (lt-leb 65536 (whole e low) h)

@@ -18,10 +18,12 @@ use Rattle.numbers.proofs.Cases.{seen-first, verdict-spent, verdict-old
 
 -- ---- which numbers are marked
 
+-- below e a bit decides
 pub marked-at : (e m k : ℕ) → k < e → marked e m k ≡ bit m (e - 1 - k)
 unfolding marked
 marked-at e m k h = simp (lt-ltb k e h)
 
+-- from e on nothing is marked
 pub marked-past : (e m k : ℕ) → e ≤ k → marked e m k ≡ false
 unfolding marked
 marked-past e m k h = simp (le-ltb k e h)
@@ -143,9 +145,11 @@ moved w e m n h k =
     (lt-of-le-of-lt (mod-le _ (2 ^ w))
     (subst (λ (x : ℕ). m * 2 ^ (n + 1 - e) < 2 ^ x) s (shl-lt e (n + 1 - e) (lt-of-lt-of-le k (pow-mono (min-le-right w e))))))
 
+-- a word that fits what is held fits the width
 pub word-fits-width : (w e m : ℕ) → m < 2 ^ min w e → m < 2 ^ w
 word-fits-width w e m h = lt-of-lt-of-le h (pow-mono (min-le-left w e))
 
+-- marking keeps the word within what is held
 pub word-kept : (w l e m n : ℕ) → 0 < w → m < 2 ^ min w e → markWord w l e m n < 2 ^ min w (markNext l e n)
 word-kept w l e m n hw hm = go (decLt n l) (decLe e n) (decLt (e - 1 - n) w)
   where
@@ -166,6 +170,7 @@ pub record Sound (w l e m : ℕ) : Type 0 where
   pub word : m < 2 ^ min w e
   pub top : (eqb e 0 || bit m 0) ≡ true
 
+-- `sound` has the parts
 pub sound-parts : (w l e m : ℕ) → sound w l e m ≡ true → Sound w l e m
 unfolding sound
 sound-parts w l e m h =
@@ -173,10 +178,12 @@ sound-parts w l e m h =
     let b = and-eq-true-iff (leb e l) (ltb m (2 ^ min w e)) .0 (a .0) in
     record { limit = leb-true e l (b .0); word = ltb-true m (2 ^ min w e) (b .1); top = a .1 }
 
+-- and the parts make it
 pub sound-whole : (w l e m : ℕ) → Sound w l e m → sound w l e m ≡ true
 unfolding sound
 sound-whole w l e m s = simp (le-leb e l (s .limit), lt-ltb m (2 ^ min w e) (s .word), s .top)
 
+-- a test or true
 pub or-true : (b : Bool) → (b || true) ≡ true
 or-true true = refl
 or-true false = refl

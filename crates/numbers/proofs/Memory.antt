@@ -178,6 +178,7 @@ collected-holds e m (suc k) x h = go (collected-holds e m k x (omega arith)) (bi
     go ih false q =
         ih ∙ ap (λ (b : Bool). b || leb e (x + k) && marked e m x) (sym (and-none (eqb x (e - 1 - k)) q)) ∙ wider e m k x (omega arith)
 
+-- every window that keeps the rule shows some list of usable numbers
 pub sound-shows : (w l e m : ℕ) → 0 < w → sound w l e m ≡ true → (xs : List ℕ) × Below l xs × Shows w e m xs
 sound-shows w l e m hw h = (
   xs,

@@ -69,6 +69,7 @@ one-inside e (pos a) (negsuc b) p q h = absurd (omega arith)
 one-inside e (negsuc a) (pos b) p q h = absurd (omega arith)
 one-inside e (negsuc a) (negsuc b) p q h = ap negsuc (omega arith)
 
+-- two whole numbers near e with the same low bits are one
 pub nearest-only : (e : ℕ) (y z : ℤ) → Near e y → Near e z → lowOf y ≡ lowOf z → y ≡ z
 nearest-only e y z p q h = one-inside e y z (from-near e y p) (from-near e z q) h
 
@@ -83,6 +84,7 @@ pub near-is : (e low n : ℕ) → low < 65536 → e ≤ n + 32768 → n ≤ e + 
 unfolding lowOf raised
 near-is e low n h p q r = sym (nearest-of e low (pos n) h (to-near e (pos n) (p, q)) r)
 
+-- a number below 65536 that is too far past e stands for a negative one
 pub raised-is : (e n : ℕ) → n < 65536 → e + 32768 ≤ n → n ≡ nearest e n
 unfolding lowOf raised
 raised-is e n h p = omega (arith, nearest-of e n (negsuc (65535 - n)) h (to-near e (negsuc (65535 - n)) (omega arith)) (omega arith))

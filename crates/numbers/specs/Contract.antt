@@ -23,6 +23,7 @@ windowOf e m = record { next = e; marks = marksOf m }
 abbrev pub emptyWindow : Window
 emptyWindow = windowOf 0 0
 
+-- nothing is marked, and nothing else is in it
 unfoldable pub isEmpty : Window → Bool
 isEmpty s = eqb (s .next) 0 && eqb (wordOf (s .marks)) 0
 
@@ -34,6 +35,7 @@ seenBy s = marked (s .next) (wordOf (s .marks))
 unfoldable pub soundWindow : Rule → Window → Bool
 soundWindow r s = sound (widthOf r) (r .limit) (s .next) (wordOf (s .marks))
 
+-- a refusal, with no number
 abbrev pub noPlace : ℕ → Placed
 noPlace why = record { answer = why; number = 0 }
 

@@ -13,6 +13,7 @@ use Rattle.numbers.specs.Contract.{widthOf, emptyWindow, after}
 use Rattle.numbers.specs.declared.window.Rule.{Rule}
 use Rattle.numbers.specs.declared.window.Window.{Window}
 
+-- whether k is in the list
 unfoldable pub member : ℕ → List ℕ → Bool
 member k [] = false
 member k (x ∷ xs) = eqb k x || member k xs

@@ -12,6 +12,7 @@ use Rattle.numbers.specs.Contract.{windowOf, placed}
 use Rattle.numbers.specs.declared.window.Rule.{Rule}
 use Rattle.numbers.specs.declared.window.Placed.{Placed}
 
+-- meant is the number before the window check
 pub record Row : Type 0 where
   pub next : ℕ
   pub low : ℕ
@@ -45,6 +46,7 @@ answeredRow r p = row (r .next) (r .low) (nearest (r .next) (r .low)) (p .answer
 unfoldable pub worked : Row → Row
 worked r = answeredRow r (placed rowRule (windowOf (r .next) (rowWord r)) (r .low))
 
+-- rows p1 to p10
 unfoldable pub rows : List Row
 rows =
     taken 0 0 0

@@ -30,5 +30,6 @@ markWord w l e m n =
 unfoldable pub sound : ℕ → ℕ → ℕ → ℕ → Bool
 sound w l e m = leb e l && ltb m (2 ^ min w e) && (eqb e 0 || bit m 0)
 
+-- the gap count
 unfoldable pub gaps : ℕ → ℕ → ℕ → ℕ
 gaps w e m = gapCount w e (marked e m)

@@ -6,9 +6,11 @@ use lib.Dec.{eqb}
 use lib.Bits.{bitOr}
 use Rattle.numbers.specs.declared.marks.Marks.{Marks}
 
+-- whether bit i of m is set
 unfoldable pub bit : ℕ → ℕ → Bool
 bit m i = eqb (m / 2 ^ i % 2) 1
 
+-- m with bit i set
 unfoldable pub setBit : ℕ → ℕ → ℕ
 setBit m i = bitOr m (2 ^ i)
 
@@ -16,8 +18,10 @@ setBit m i = bitOr m (2 ^ i)
 abbrev pub most : ℕ
 most = 64
 
+-- the number of a word
 unfoldable pub wordOf : Marks → ℕ
 wordOf m = m .word
 
+-- the word of a number
 unfoldable pub marksOf : ℕ → Marks
 marksOf m = record { word = m }

@@ -1,3 +1,5 @@
+-- `Marks::count` meets its contract.
+-- Assumes nothing.
 use Rattle.numbers.proofs.Word.{count-is}
 use Rattle.numbers.proofs.marks.Marks.count.Statement.{statement}
 use Rattle.numbers.proofs.marks.Marks.count.Tie as tie

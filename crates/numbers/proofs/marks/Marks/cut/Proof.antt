@@ -1,3 +1,5 @@
+-- `Marks::cut` meets its contract.
+-- Assumes nothing.
 use Rattle.numbers.proofs.Word.{cut-all, cut-in}
 use Rattle.numbers.proofs.Bits.{one-shifted}
 use lib.Pow.{pow-pos}

@@ -1,3 +1,5 @@
+-- `Marks::none` meets its contract.
+-- Assumes nothing.
 use Rattle.numbers.proofs.Word.{none-is}
 use Rattle.numbers.proofs.marks.Marks.none.Statement.{statement}
 use Rattle.numbers.proofs.marks.Marks.none.Tie as tie

@@ -1,3 +1,5 @@
+-- `Marks::same` meets its contract.
+-- Assumes nothing.
 use Rattle.numbers.proofs.Word.{same-is}
 use Rattle.numbers.proofs.marks.Marks.same.Statement.{statement}
 use Rattle.numbers.proofs.marks.Marks.same.Tie as tie

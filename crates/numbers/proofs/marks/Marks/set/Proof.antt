@@ -1,3 +1,5 @@
+-- `Marks::set` meets its contract.
+-- Assumes nothing.
 use Rattle.numbers.proofs.Word.{set-all, set-in}
 use borrow.Author.Needs.{needs}
 use Rattle.numbers.proofs.marks.Marks.set.Statement.{statement}

@@ -1,3 +1,5 @@
+-- `Marks::test` meets its contract.
+-- Assumes nothing.
 use Rattle.numbers.proofs.Word.{test-out, test-in}
 use borrow.Author.Needs.{needs}
 use Rattle.numbers.proofs.marks.Marks.test.Statement.{statement}

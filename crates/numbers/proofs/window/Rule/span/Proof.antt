@@ -1,3 +1,5 @@
+-- `Rule::span` meets its contract.
+-- Assumes nothing.
 use Rattle.numbers.specs.Contract.{widthOf}
 use native.Mathlib.Omega.{arith}
 use Rattle.numbers.proofs.window.Rule.span.Statement.{statement}

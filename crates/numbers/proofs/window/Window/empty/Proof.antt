@@ -1,3 +1,5 @@
+-- `Window::empty` meets its contract.
+-- Assumes nothing.
 use Rattle.numbers.proofs.Calls.{empty-of}
 use borrow.Author.Needs.{needs}
 use Rattle.numbers.proofs.window.Window.empty.Statement.{statement}

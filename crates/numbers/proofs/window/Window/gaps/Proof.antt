@@ -1,3 +1,5 @@
+-- `Window::gaps` meets its contract.
+-- Assumes nothing.
 use Rattle.numbers.proofs.Calls.{held-lt, count-le, gaps-are}
 use borrow.Author.Needs.{needs}
 use Rattle.numbers.proofs.window.Window.gaps.Statement.{statement}

@@ -1,3 +1,5 @@
+-- `Window::is_empty` meets its contract.
+-- Assumes nothing.
 use Rattle.numbers.proofs.Calls.{empty-test}
 use borrow.Author.Needs.{needs}
 use Rattle.numbers.proofs.window.Window.is_empty.Statement.{statement}

@@ -1,3 +1,5 @@
+-- `Window::judge` meets its contract.
+-- Assumes nothing.
 use Rattle.numbers.proofs.Calls.{judged-spent, judged-ahead, judged-old, judged-repeat, judged-new}
 use borrow.Author.Needs.{needs}
 use Rattle.numbers.proofs.window.Window.judge.Statement.{statement}

@@ -1,3 +1,5 @@
+-- `Window::mark` meets its contract.
+-- Assumes nothing.
 use Rattle.numbers.proofs.Calls.{after-spent, after-ahead, after-old, after-within}
 use borrow.Author.Needs.{needs}
 use Rattle.numbers.proofs.window.Window.mark.Statement.{statement}

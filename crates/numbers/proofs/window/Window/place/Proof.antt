@@ -1,3 +1,5 @@
+-- `Window::place` meets its contract.
+-- Assumes nothing.
 use Rattle.numbers.proofs.Calls.{placed-spent, placed-at}
 use Rattle.numbers.proofs.Nearest.{near-is, raised-is}
 use native.Mathlib.Omega.{arith}

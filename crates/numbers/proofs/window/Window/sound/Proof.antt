@@ -1,3 +1,5 @@
+-- `Window::sound` meets its contract.
+-- Assumes nothing.
 use Rattle.numbers.proofs.Calls.{sound-test}
 use borrow.Author.Needs.{needs}
 use Rattle.numbers.proofs.window.Window.sound.Statement.{statement}
