@@ -25,7 +25,7 @@ pub one-shifted : (w i : ℕ) → i < w → (1 * 2 ^ i) % 2 ^ w ≡ 2 ^ i
 one-shifted w i h = ap (λ (x : ℕ). x % 2 ^ w) (one-mul (2 ^ i)) ∙ mod-eq-of-lt (pow-lt h)
 
 -- a power is the product of two
-pub pow-split : (i j : ℕ) → i ≤ j → 2 ^ j ≡ 2 ^ (j - i) * 2 ^ i
+pow-split : (i j : ℕ) → i ≤ j → 2 ^ j ≡ 2 ^ (j - i) * 2 ^ i
 pow-split i j h = let e : j ≡ (j - i) + i = omega arith in ap (λ (x : ℕ). 2 ^ x) e ∙ pow-add 2 (j - i) i
 
 -- nothing is left of a word that is moved up by its width or more
@@ -60,7 +60,7 @@ or-low a b =
     ∙ digits-mod (bitOr (a / 2) (b / 2)) (let p = mod-lt a (zero-lt-suc 1) in let q = mod-lt b (zero-lt-suc 1) in omega arith)
 
 -- a bit of two words joined
-pub or-bit : (a b j : ℕ) → bit (bitOr a b) j ≡ (bit a j || bit b j)
+or-bit : (a b j : ℕ) → bit (bitOr a b) j ≡ (bit a j || bit b j)
 unfolding bit
 or-bit a b j =
     ap (λ (x : ℕ). eqb x 1) (ap (λ (x : ℕ). x % 2) (or-shr a b j) ∙ or-low (a / 2 ^ j) (b / 2 ^ j))
@@ -107,7 +107,7 @@ unfolding bit
 pow-bit-same i = ap (λ (x : ℕ). eqb (x % 2) 1) (div-self (pow-pos i))
 
 -- a power has one bit
-pub pow-bit : (i j : ℕ) → bit (2 ^ i) j ≡ eqb j i
+pow-bit : (i j : ℕ) → bit (2 ^ i) j ≡ eqb j i
 pow-bit i j = go (decLt j i) (decLt i j)
   where
     go : Dec (j < i) → Dec (i < j) → bit (2 ^ i) j ≡ eqb j i

@@ -10,7 +10,7 @@ use lib.IntN.{ℤ, pos, negsuc}
 use lib.Signed.{leZ-yes}
 use borrow.Author.Tests.{lt-ltb, le-ltb}
 use Rattle.numbers.specs.Number.{whole, nearest}
-use Rattle.numbers.specs.Whole.{Near, lowOf, raised, Reached}
+use Rattle.numbers.specs.Whole.{Near, low16, raised, Reached}
 use Rattle.numbers.proofs.Cases.{nearest-pos, nearest-neg}
 
 -- `Near`, as bounds on natural numbers
@@ -51,70 +51,70 @@ from-near e (negsuc k) h = go (decLt e 32768)
     go (no p) = let q : 32768 ≤ e = omega arith in absurd ((rw (le-ltb e 32768 q) at (h .least)) .le)
 
 -- there is one
-pub nearest-is : (e low : ℕ) → low < 65536 → (z : ℤ) × Near e z × (lowOf z ≡ low) × (raised z ≡ nearest e low)
-unfolding lowOf raised whole
+pub nearest-is : (e low : ℕ) → low < 65536 → (z : ℤ) × Near e z × (low16 z ≡ low) × (raised z ≡ nearest e low)
+unfolding low16 raised whole
 nearest-is e low h = go (decLe 65536 (whole e low))
   where
-    go : Dec (65536 ≤ whole e low) → (z : ℤ) × Near e z × (lowOf z ≡ low) × (raised z ≡ nearest e low)
+    go : Dec (65536 ≤ whole e low) → (z : ℤ) × Near e z × (low16 z ≡ low) × (raised z ≡ nearest e low)
     go (yes p) = (pos (whole e low - 65536), to-near e (pos (whole e low - 65536)) (omega arith, omega arith), omega arith, sym (nearest-pos e low p))
     go (no p) =
         let q : whole e low < 65536 = omega arith in
         (negsuc (65535 - whole e low), to-near e (negsuc (65535 - whole e low)) (omega arith), omega arith, omega (arith, nearest-neg e low q))
 
 -- there is no other
-one-inside : (e : ℕ) (y z : ℤ) → Inside e y → Inside e z → lowOf y ≡ lowOf z → y ≡ z
-unfolding lowOf
+one-inside : (e : ℕ) (y z : ℤ) → Inside e y → Inside e z → low16 y ≡ low16 z → y ≡ z
+unfolding low16
 one-inside e (pos a) (pos b) p q h = ap pos (omega arith)
 one-inside e (pos a) (negsuc b) p q h = absurd (omega arith)
 one-inside e (negsuc a) (pos b) p q h = absurd (omega arith)
 one-inside e (negsuc a) (negsuc b) p q h = ap negsuc (omega arith)
 
 -- two whole numbers near e with the same low bits are one
-pub nearest-only : (e : ℕ) (y z : ℤ) → Near e y → Near e z → lowOf y ≡ lowOf z → y ≡ z
+pub nearest-only : (e : ℕ) (y z : ℤ) → Near e y → Near e z → low16 y ≡ low16 z → y ≡ z
 nearest-only e y z p q h = one-inside e y z (from-near e y p) (from-near e z q) h
 
 -- so whatever whole number near e has those bits, raised, is the number
-pub nearest-of : (e low : ℕ) (z : ℤ) → low < 65536 → Near e z → lowOf z ≡ low → nearest e low ≡ raised z
+pub nearest-of : (e low : ℕ) (z : ℤ) → low < 65536 → Near e z → low16 z ≡ low → nearest e low ≡ raised z
 nearest-of e low z h p q =
     let o = nearest-is e low h in
     sym (o .3) ∙ ap raised (nearest-only e (o .0) z (o .1) p (o .2 ∙ sym q))
 
 -- the same with the number in hand: near e, or raised by 65536
 pub near-is : (e low n : ℕ) → low < 65536 → e ≤ n + 32768 → n ≤ e + 32767 → n % 65536 ≡ low → n ≡ nearest e low
-unfolding lowOf raised
+unfolding low16 raised
 near-is e low n h p q r = sym (nearest-of e low (pos n) h (to-near e (pos n) (p, q)) r)
 
 -- a number below 65536 that is too far past e stands for a negative one
 pub raised-is : (e n : ℕ) → n < 65536 → e + 32768 ≤ n → n ≡ nearest e n
-unfolding lowOf raised
+unfolding low16 raised
 raised-is e n h p = omega (arith, nearest-of e n (negsuc (65535 - n)) h (to-near e (negsuc (65535 - n)) (omega arith)) (omega arith))
 
 -- the number meant has the low bits that were given
 pub nearest-low : (e low : ℕ) → low < 65536 → nearest e low % 65536 ≡ low
-unfolding lowOf raised
+unfolding low16 raised
 nearest-low e low h =
     let o = nearest-is e low h in
     go (o .0) (from-near e (o .0) (o .1)) (o .2) (o .3)
   where
-    go : (z : ℤ) → Inside e z → lowOf z ≡ low → raised z ≡ nearest e low → nearest e low % 65536 ≡ low
+    go : (z : ℤ) → Inside e z → low16 z ≡ low → raised z ≡ nearest e low → nearest e low % 65536 ≡ low
     go (pos n) p q r = omega arith
     go (negsuc k) p q r = omega arith
 
 -- a number stays the nearest to its own low bits once it is marked
 pub nearest-again : (e low : ℕ) → low < 65536 → nearest (max e (nearest e low + 1)) low ≡ nearest e low
-unfolding lowOf raised
+unfolding low16 raised
 nearest-again e low h =
     let o = nearest-is e low h in
     go (o .0) (from-near e (o .0) (o .1)) (o .2) (o .3)
   where
-    go : (z : ℤ) → Inside e z → lowOf z ≡ low → raised z ≡ nearest e low → nearest (max e (nearest e low + 1)) low ≡ nearest e low
+    go : (z : ℤ) → Inside e z → low16 z ≡ low → raised z ≡ nearest e low → nearest (max e (nearest e low + 1)) low ≡ nearest e low
     go (pos n) p q r = sym (near-is (max e (nearest e low + 1)) low (nearest e low) h (omega arith) (omega arith) (omega arith))
     go (negsuc k) p q r = sym (near-is (max e (nearest e low + 1)) low (nearest e low) h (omega arith) (omega arith) (omega arith))
 
 -- ---- which numbers are found from their own low bits
 
 reached-only : (e n : ℕ) → nearest e (n % 65536) ≡ n → Reached e n
-unfolding lowOf raised
+unfolding low16 raised
 reached-only e n h =
     let o = nearest-is e (n % 65536) (omega arith) in
     go (o .0) (from-near e (o .0) (o .1)) (o .3 ∙ h)

@@ -3,24 +3,25 @@
 use Prim.Native.Nat.{ℕ, _≤_, _<_, _^_, _-_, min}
 use mathlib.Core.Bool.{Bool, true, false, not}
 use mathlib.Core.Logic.{_⊎_, inl, inr}
-use mathlib.Core.Path.{_≡_, refl, ap, _∙_}
+use mathlib.Core.Path.{_≡_, refl, sym, ap, _∙_}
 use native.Mathlib.Nat.{eq-zero-or-pos}
 use native.Mathlib.Omega.{arith}
 use native.Mathlib.Decide.{decLe}
 use lib.Dec.{eqb}
 use borrow.Author.Tests.{not-true, not-false, eq-eqb, ne-eqb}
-use Rattle.answers.specs.Reasons.{Tells, Told}
+use Rattle.answers.specs.Table.{first}
+use Rattle.answers.specs.Reasons.{Answers, Tells, Told}
 use Rattle.answers.proofs.Tests.{true-not-false, tells-true, tells-lt, tells-le}
-use Rattle.answers.proofs.Reasons.{told-row}
+use Rattle.answers.proofs.Reasons.{told-row, answers}
 use Rattle.numbers.specs.declared.window.Rule.{Rule}
 use Rattle.numbers.specs.declared.window.Window.{Window}
-use Rattle.numbers.specs.Number.{numberRows}
+use Rattle.numbers.specs.Number.{nearest, numberRows}
 use Rattle.numbers.specs.Word.{bit, wordOf}
 use Rattle.numbers.specs.Window.{sound}
-use Rattle.numbers.specs.Contract.{widthOf, emptyWindow, isEmpty, soundWindow}
+use Rattle.numbers.specs.Contract.{widthOf, emptyWindow, isEmpty, seenBy, soundWindow, placed}
 use Rattle.numbers.specs.Reasons.{numberReasons, Unsound}
 use Rattle.numbers.proofs.Bits.{high-bit, fits-or-bit}
-use Rattle.numbers.proofs.Laws.{Typed, empty-is, empty-only}
+use Rattle.numbers.proofs.Laws.{Typed, placed-answer, empty-is, empty-only}
 use Rattle.numbers.proofs.Marking.{Sound, sound-parts, sound-whole, or-true}
 
 -- each number row tells its reason
@@ -28,6 +29,15 @@ pub number-told : (w l e : ℕ) (seen : ℕ → Bool) (n : ℕ) → Told (number
 unfolding numberRows
 number-told w l e seen n =
     (told-row (tells-le l n), (told-row (tells-lt w (e - n)), (told-row (tells-true (seen n)), tt)))
+
+number-answers : (w l e : ℕ) (seen : ℕ → Bool) (n k : ℕ) → first (numberRows w l e seen n) ≡ k → Answers k (numberReasons w l e seen n)
+number-answers w l e seen n = answers (numberRows w l e seen n) (numberReasons w l e seen n) (number-told w l e seen n)
+
+-- so the answer to a record's low bits is the first reason that holds of the number meant, and 0 exactly where none holds
+pub placed-told : (r : Rule) (s : Window) (low : ℕ)
+    → Answers ((placed r s low) .answer) (numberReasons (widthOf r) (r .limit) (s .next) (seenBy s) (nearest (s .next) low))
+placed-told r s low =
+    number-answers (widthOf r) (r .limit) (s .next) (seenBy s) (nearest (s .next) low) _ (sym (placed-answer r s low))
 
 -- ---- the rule of a window
 

@@ -11,9 +11,9 @@ pub record Near (e : ℕ) (z : ℤ) : Type 0 where
   pub most : z ≤ℤ (pos e +ℤ pos 32767)
 
 -- the low 16 bits
-unfoldable pub lowOf : ℤ → ℕ
-lowOf (pos n) = n % 65536
-lowOf (negsuc k) = 65535 - k % 65536
+unfoldable pub low16 : ℤ → ℕ
+low16 (pos n) = n % 65536
+low16 (negsuc k) = 65535 - k % 65536
 
 -- a negative number is raised by 65536
 unfoldable pub raised : ℤ → ℕ
