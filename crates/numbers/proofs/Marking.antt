@@ -45,50 +45,42 @@ marked-within w e m k f h = go (decLe e (k + w))
     go (no p) = absurd (true-not-false h (marked-at e m k (omega arith) ∙ high-bit w m (e - 1 - k) f (omega arith)))
 
 -- a number at or past e: the word is moved up, and bit 0 is set
-ahead-marked : (w e m n k : ℕ) → 0 < w → e ≤ n
-    → marked (n + 1) (setBit (m * 2 ^ (n + 1 - e) % 2 ^ w) 0) k ≡ (leb (n + 1) (k + w) && (eqb k n || marked e m k))
-ahead-marked w e m n k hw h = go (decLt n k) (decLt k n) (decLt k e) (decLe (n + 1) (k + w))
-  where
-    up : ℕ
-    up = m * 2 ^ (n + 1 - e) % 2 ^ w
+module _ (w e m n k : ℕ) (hw : 0 < w) (h : e ≤ n) where
+  abbrev up : ℕ
+  up = m * 2 ^ (n + 1 - e) % 2 ^ w
 
-    go : Dec (n < k) → Dec (k < n) → Dec (k < e) → Dec (n + 1 ≤ k + w)
-        → marked (n + 1) (setBit (m * 2 ^ (n + 1 - e) % 2 ^ w) 0) k ≡ (leb (n + 1) (k + w) && (eqb k n || marked e m k))
-    -- past n: never marked
-    go (yes p) d f v =
-        let a : n + 1 ≤ k = omega arith in
-        let b : e ≤ k = omega arith in
-        let c : n + 1 ≤ k + w = omega arith in
-        marked-past (n + 1) _ k a ∙ sym (simp (le-leb _ _ c, ne-eqb k n (omega arith), marked-past e m k b))
-    -- n itself
-    go (no p) (no q) f v =
-        let a : k < n + 1 = omega arith in
-        let b : n + 1 - 1 - k ≡ 0 = omega arith in
-        let c : n + 1 ≤ k + w = omega arith in
-        marked-at (n + 1) _ k a ∙ set-bit up 0 (n + 1 - 1 - k) ∙ simp (eq-eqb _ _ b, le-leb _ _ c, eq-eqb k n (omega arith))
-    -- below n, and out of the window
-    go (no p) (yes q) f (no v) =
-        let a : k < n + 1 = omega arith in
-        let b : w ≤ n + 1 - 1 - k = omega arith in
-        let c : k + w < n + 1 = omega arith in
-        marked-at (n + 1) _ k a ∙ set-bit up 0 (n + 1 - 1 - k)
-        ∙ simp (ne-eqb (n + 1 - 1 - k) 0 (omega arith), lt-leb _ _ c, high-bit w up (n + 1 - 1 - k) (mod-lt _ (pow-pos w)) b)
-    -- below n, in the window and not below e: moved past
-    go (no p) (yes q) (no f) (yes v) =
-        let a : k < n + 1 = omega arith in
-        let b : n + 1 - 1 - k < w = omega arith in
-        let c : e ≤ k = omega arith in
-        marked-at (n + 1) _ k a ∙ set-bit up 0 (n + 1 - 1 - k)
-        ∙ simp (ne-eqb (n + 1 - 1 - k) 0 (omega arith), le-leb _ _ v, ne-eqb k n (omega arith), marked-past e m k c, mod-bit w (m * 2 ^ (n + 1 - e)) (n + 1 - 1 - k) b, shl-bit-low m (n + 1 - e) (n + 1 - 1 - k) (omega arith))
-    -- below e: the bit that it had
-    go (no p) (yes q) (yes f) (yes v) =
-        let a : k < n + 1 = omega arith in
-        let b : n + 1 - 1 - k < w = omega arith in
-        let c : n + 1 - e ≤ n + 1 - 1 - k = omega arith in
-        let d : n + 1 - 1 - k - (n + 1 - e) ≡ e - 1 - k = omega arith in
-        marked-at (n + 1) _ k a ∙ set-bit up 0 (n + 1 - 1 - k)
-        ∙ simp (ne-eqb (n + 1 - 1 - k) 0 (omega arith), le-leb _ _ v, ne-eqb k n (omega arith), marked-at e m k f)
-        (mod-bit w (m * 2 ^ (n + 1 - e)) (n + 1 - 1 - k) b ∙ shl-bit-high m (n + 1 - e) (n + 1 - 1 - k) c ∙ ap (bit m) d)
+  -- below n and in the window, the bit is the one that k had
+  moved-bit : k < n → n + 1 ≤ k + w → bit up (n - k) ≡ marked e m k
+  moved-bit p v = go (decLt k e)
+    where
+      low : bit up (n - k) ≡ bit (m * 2 ^ (n + 1 - e)) (n - k)
+      low = mod-bit w (m * 2 ^ (n + 1 - e)) (n - k) (omega arith)
+
+      go : Dec (k < e) → bit up (n - k) ≡ marked e m k
+      go (yes f) = low ∙ shl-bit-high m (n + 1 - e) (n - k) (omega arith) ∙ ap (bit m) (omega arith) ∙ sym (marked-at e m k f)
+      go (no f) = low ∙ shl-bit-low m (n + 1 - e) (n - k) (omega arith) ∙ sym (marked-past e m k (omega arith))
+
+  ahead-bit : k ≤ n → marked (n + 1) (setBit up 0) k ≡ (eqb (n - k) 0 || bit up (n - k))
+  ahead-bit p = marked-at (n + 1) _ k (omega arith) ∙ ap (bit (setBit up 0)) (omega arith) ∙ set-bit up 0 (n - k)
+
+  -- past n; n itself; below n and out of the window; below n and in it
+  ahead-marked : marked (n + 1) (setBit up 0) k ≡ (leb (n + 1) (k + w) && (eqb k n || marked e m k))
+  ahead-marked = go (decLt n k) (decLt k n) (decLe (n + 1) (k + w))
+    where
+      go : Dec (n < k) → Dec (k < n) → Dec (n + 1 ≤ k + w) → marked (n + 1) (setBit up 0) k ≡ (leb (n + 1) (k + w) && (eqb k n || marked e m k))
+      go (yes p) d v =
+          marked-past (n + 1) _ k (omega arith)
+          ∙ sym (simp (le-leb (n + 1) (k + w) (omega arith), ne-eqb k n (omega arith), marked-past e m k (omega arith)))
+      go (no p) (no q) v =
+          ahead-bit (omega arith)
+          ∙ simp (eq-eqb (n - k) 0 (omega arith), le-leb (n + 1) (k + w) (omega arith), eq-eqb k n (omega arith))
+      go (no p) (yes q) (no v) =
+          let o : w ≤ n - k = omega arith in
+          ahead-bit (omega arith)
+          ∙ simp (ne-eqb (n - k) 0 (omega arith), lt-leb (n + 1) (k + w) (omega arith), high-bit w up (n - k) (mod-lt _ (pow-pos w)) o)
+      go (no p) (yes q) (yes v) =
+          ahead-bit (omega arith)
+          ∙ simp (ne-eqb (n - k) 0 (omega arith), le-leb (n + 1) (k + w) v, ne-eqb k n (omega arith), moved-bit q v)
 
 -- a number below e: its bit is set
 within-marked : (w e m n k : ℕ) → m < 2 ^ w → n < e → e - 1 - n < w

@@ -12,13 +12,20 @@ returns-2 : tie.Need-returns-2
 returns-2 c = judged-ahead _ _ _ (c .before .if1 .left) (c .if2 .taken)
 
 returns-3 : tie.Need-returns-3
-returns-3 c = judged-old _ _ _ (c .refused2 .ensures) (c .before .before .before .before .if1 .left) (c .before .before .before .if2 .left) (c .before .before .span .ensures) (c .before .if3 .taken)
+returns-3 c =
+    judged-old _ _ _ (c .refused2 .ensures) (c .before .before .before .before .if1 .left) (c .before .before .before .if2 .left)
+    (c .before .before .span .ensures) (c .before .if3 .taken)
 
 returns-4 : tie.Need-returns-4
-returns-4 c = judged-repeat _ _ _ (c .before .before .before .before .before .before .if1 .left) (c .before .before .before .before .before .if2 .left) (c .before .before .before .before .span .ensures) (c .before .before .before .if3 .left) (c .before .before .test .ensures) (c .refused3 .ensures) (c .before .if4 .taken)
+returns-4 c =
+    judged-repeat _ _ _ (c .before .before .before .before .before .before .if1 .left)
+    (c .before .before .before .before .before .if2 .left) (c .before .before .before .before .span .ensures)
+    (c .before .before .before .if3 .left) (c .before .before .test .ensures) (c .refused3 .ensures) (c .before .if4 .taken)
 
 returns-5 : tie.Need-returns-5
-returns-5 c = judged-new _ _ _ (c .before .before .before .before .before .if1 .left) (c .before .before .before .before .if2 .left) (c .before .before .before .span .ensures) (c .before .before .if3 .left) (c .before .test .ensures) (c .if4 .left)
+returns-5 c =
+    judged-new _ _ _ (c .before .before .before .before .before .if1 .left) (c .before .before .before .before .if2 .left)
+    (c .before .before .before .span .ensures) (c .before .before .if3 .left) (c .before .test .ensures) (c .if4 .left)
 
 pub judge-spec : {M : Type 1} → statement M
 judge-spec =
