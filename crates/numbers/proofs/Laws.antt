@@ -82,7 +82,7 @@ again-repeat w l e m low hw hm hlow a =
     ap (verdict w l (markNext l e n) (markWord w l e m n)) (ap (λ (x : ℕ). nearest x low) (next-is w l e m n (z .0)) ∙ nearest-again e low hlow)
     ∙ mark-repeat w l e m n hw hm (z .0) (z .1)
 
--- the same of a window that is made of numbers
+-- what is answered by a window that is made of numbers
 pub placed-of : (r : Rule) (e m low : ℕ) → m < 2 ^ most
     → placed r (windowOf e m) low ≡ given (verdict (widthOf r) (r .limit) e m (nearest e low)) (taken (nearest e low)) noPlace
 unfolding placed judged seenBy verdict windowOf
