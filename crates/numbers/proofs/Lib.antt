@@ -1,0 +1,13 @@
+pub mod Bits
+pub mod Cases
+pub mod Word
+pub mod Adaptor
+pub mod Marking
+pub mod Gaps
+pub mod Memory
+pub mod Nearest
+pub mod Calls
+pub mod Laws
+pub mod Told
+pub mod Rows
+pub mod OneAnswer
