@@ -1,2 +1,4 @@
 pub mod Endian
 pub mod Puts
+pub mod Blank
+pub mod OneAnswer

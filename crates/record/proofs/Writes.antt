@@ -1,39 +1,17 @@
 -- Writes of one part after the other.
 -- Assumes nothing.
 use Prim.Native.Nat.{ℕ, _+_, _≤_, zero-le}
-use mathlib.Core.List.{List, _++_, append-assoc}
-use mathlib.Core.Path.{_≡_, refl, sym, ap, _∙_}
+use mathlib.Core.List.{List, _++_}
+use mathlib.Core.Path.{_≡_, refl, sym, _∙_}
 use native.Mathlib.Nat.{add-assoc}
 use native.Mathlib.Omega.{arith}
-use lib.ListN.{length, take, drop, length-append}
-use lib.Seq.{length-take-le, take-at, drop-at, drop-drop}
+use lib.ListN.{length, length-append}
 use Rattle.octets.specs.Fields.{little}
-use Rattle.octets.specs.Parts.{over, put}
-use Rattle.octets.proofs.Puts.{put-fits}
+use Rattle.octets.specs.Parts.{over}
+use Rattle.octets.proofs.Puts.{over-over}
 use Rattle.record.specs.declared.setting.Setting.{Setting}
 use Rattle.record.specs.Shape.{headLen}
 use Rattle.record.specs.Header.{headOf}
-
--- a part right behind another is the two in one
-pub over-over : (d : List ℕ) (at : ℕ) (a b : List ℕ) (n : ℕ) → at ≤ length d → at + length a ≡ n
-    → over (over d at a) n b ≡ over d at (a ++ b)
-over-over d at a b n h e =
-    let p : List ℕ = take at d ++ a in
-    let q : List ℕ = drop (at + length a) d in
-    let lp : length p ≡ n = length-append (take at d) a ∙ rw (length-take-le at d h) e in
-    let t : take n (p ++ q) ≡ p = take-at p q n lp in
-    let u : drop (n + length b) (p ++ q) ≡ drop (at + length (a ++ b)) d =
-    sym (drop-drop (length b) n (p ++ q))
-    ∙ ap (λ (l : List ℕ). drop (length b) l) (drop-at p q n lp)
-    ∙ drop-drop (length b) (at + length a) d
-    ∙ ap (λ (k : ℕ). drop k d) (add-assoc at (length a) (length b) ∙ ap (λ (k : ℕ). at + k) (sym (length-append a b))) in
-    ap (λ (l : List ℕ). l ++ b ++ drop (n + length b) (p ++ q)) t
-    ∙ ap (λ (l : List ℕ). p ++ b ++ l) u
-    ∙ ap (λ (l : List ℕ). l ++ drop (at + length (a ++ b)) d) (append-assoc (take at d) a b)
-
--- what was put where there is room
-pub putting : (d e : List ℕ) (at : ℕ) (src : List ℕ) → e ≡ put d at src → at + length src ≤ length d → e ≡ over d at src
-putting d e at src p h = p ∙ sym (put-fits d at src h)
 
 module _ (d d1 d2 d3 : List ℕ) where
   pub head-written : (s : Setting) (n len : ℕ) → d1 ≡ over d 0 (little 4 (s .session)) → d2 ≡ over d1 4 (little 2 n)

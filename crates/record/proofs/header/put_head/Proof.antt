@@ -1,4 +1,5 @@
-use Rattle.record.proofs.Writes.{putting, head-written}
+use Rattle.octets.proofs.Puts.{putting}
+use Rattle.record.proofs.Writes.{head-written}
 use Rattle.record.specs.Shape.{headLen}
 use native.Mathlib.Omega.{arith}
 use borrow.Author.Needs.{needs}

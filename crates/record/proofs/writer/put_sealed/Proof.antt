@@ -1,4 +1,5 @@
-use Rattle.record.proofs.Writes.{putting, sealed-written}
+use Rattle.octets.proofs.Puts.{putting}
+use Rattle.record.proofs.Writes.{sealed-written}
 use Rattle.octets.specs.Fields.{little}
 use Rattle.record.specs.Shape.{headLen, innerLen}
 use native.Mathlib.Omega.{arith}

@@ -1,5 +1,6 @@
 use Rattle.record.proofs.Forms.{small, written-no, written-short, written-ok, total-is}
-use Rattle.record.proofs.Writes.{putting, body-written}
+use Rattle.octets.proofs.Puts.{putting}
+use Rattle.record.proofs.Writes.{body-written}
 use Rattle.record.specs.Write.{bodyLen, bodyOf, frontOf, lengthFor}
 use Rattle.record.specs.Shape.{headLen}
 use borrow.Author.Tests.{ltb-false}
