@@ -2,3 +2,4 @@ pub mod Endian
 pub mod Puts
 pub mod Blank
 pub mod OneAnswer
+pub mod Xor
