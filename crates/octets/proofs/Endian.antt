@@ -63,11 +63,13 @@ big-one k a b p q e =
     let r : reverse (little k a) ≡ reverse (little k b) = sym (big-reverse k a) ∙ e ∙ big-reverse k b in
     little-one k a b p q (sym (reverse-reverse (little k a)) ∙ ap reverse r ∙ reverse-reverse (little k b))
 
+-- what stands before a number does not count
 pub bigField-behind : (a s : List ℕ) (k : ℕ) → bigField (a ++ s) (length a) k ≡ bigField s 0 k
 unfolding bigField
 bigField-behind a s zero = refl
 bigField-behind a s (suc k) = rw (bigField-behind a s k, getD-append-add a s k 0, zero-add k)
 
+-- k bytes of n are read as n, but for what they can not hold
 pub bigField-big : (k n : ℕ) (c : List ℕ) → bigField (big k n ++ c) 0 k ≡ n % 256 ^ k
 unfolding bigField
 bigField-big zero n c = omega arith

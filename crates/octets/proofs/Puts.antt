@@ -1,11 +1,11 @@
--- Fields past the end, bytes that fit or do not, and parts put one behind the other.
+-- Fields past the end, bytes that fit or do not, and one part put behind another.
 -- Assumes nothing.
 use Prim.Native.Nat.{ℕ, zero, suc, _+_, _*_, _≤_, _<_}
 use mathlib.Core.List.{List, _++_, append-assoc}
 use mathlib.Core.Path.{_≡_, refl, sym, ap, _∙_}
 use native.Mathlib.Nat.{add-assoc}
 use native.Mathlib.Omega.{arith}
-use lib.ListN.{length, getD, take, drop, length-append, List·getD-eq-default}
+use lib.ListN.{length, take, drop, getD, length-append, List·getD-eq-default}
 use lib.Seq.{length-take-le, take-at, drop-at, drop-drop}
 use borrow.Author.Tests.{le-leb, lt-leb}
 use Rattle.octets.specs.Fields.{field}
@@ -31,13 +31,13 @@ pub put-fits : (d : List ℕ) (at : ℕ) (src : List ℕ) → at + length src �
 unfolding put
 put-fits d at src h = rw (le-leb _ _ h)
 
-pub put-not : (d : List ℕ) (at : ℕ) (src : List ℕ) → length d < at + length src → d ≡ put d at src
-unfolding put
-put-not d at src h = rw (lt-leb _ _ h)
-
 -- what was put where there is room
 pub putting : (d e : List ℕ) (at : ℕ) (src : List ℕ) → e ≡ put d at src → at + length src ≤ length d → e ≡ over d at src
 putting d e at src p h = p ∙ sym (put-fits d at src h)
+
+pub put-not : (d : List ℕ) (at : ℕ) (src : List ℕ) → length d < at + length src → d ≡ put d at src
+unfolding put
+put-not d at src h = rw (lt-leb _ _ h)
 
 -- a part right behind another is the two in one
 pub over-over : (d : List ℕ) (at : ℕ) (a b : List ℕ) (n : ℕ) → at ≤ length d → at + length a ≡ n

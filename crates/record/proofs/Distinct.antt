@@ -24,7 +24,7 @@ each-at f i (suc k) zero h = ap f (omega arith)
 each-at f i (suc k) (suc j) h = each-at f (i + 1) k j (omega arith) ∙ ap f (omega arith)
 
 -- each byte of a XORed with that of the IV
-abbrev masked : List ℕ → List ℕ → ℕ → ℕ
+abbrev pub masked : List ℕ → List ℕ → ℕ → ℕ
 masked iv a i = bitXor (getD a i 0) (getD iv i 0)
 
 -- lists of k bytes that are equal once XORed with one IV are equal
@@ -38,6 +38,7 @@ masked-one iv a b k la lb e =
 
 -- ---- the number's bytes
 
+-- a number is spread over twelve bytes
 pub spread-length : (s : Setting) (n : ℕ) → length (spread s n) ≡ 12
 unfolding spread
 spread-length s n = refl

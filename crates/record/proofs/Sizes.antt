@@ -64,14 +64,17 @@ total-is-length s p q h = ap (λ (f : Form). f .total) (form-is s p q (formOf s 
 
 -- a record that passes the checks 4 to 7
 module _ (s : Setting) (r : List ℕ) (e : first (recordRows s r) ≡ 0) where
+  -- it names the session
   pub passed-session : sessionOf s r ≡ s .session
   unfolding recordRows
   passed-session = eqb-true _ _ (not-false _ (row-passed Refusal.Session (recordRows s r) tt e))
 
+  -- it is its header and Length bytes
   pub passed-total : length r ≡ headLen s + lengthOf s r
   unfolding recordRows totalOf
   passed-total = eqb-true _ _ (not-false _ (row-passed Refusal.Length (recordRows s r) tt e))
 
+  -- its Length is not too small
   pub passed-least : least s ≤ lengthOf s r
   unfolding recordRows
   passed-least = ltb-false _ _ (row-passed Refusal.Small (recordRows s r) tt e)

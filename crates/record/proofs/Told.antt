@@ -19,7 +19,7 @@ use Rattle.record.specs.Read.{recordRows}
 use Rattle.record.specs.Write.{formRows, roomRows}
 use Rattle.record.specs.Reasons.{TooSmall, TooLong, openReasons, recordReasons, formReasons, roomReasons}
 
--- 2
+-- 2: what Open refuses
 pub open-told : (s : Setting) → Told (openRows s) (openReasons s)
 unfolding openRows badSetting
 open-told s = (told-row (tells-or (tells-lt _ _) (tells-eq _ _)), tt)
@@ -37,22 +37,23 @@ tells-cond false {p} x m n t = record { holds = λ e. inr (t .fails refl, tells-
     go e (inl w) = t .fails refl (w .0)
     go e (inr w) = tells-lt x n .fails e (w .1)
 
+-- 7: the least Length depends on the mode
 small-told : (s : Setting) (r : List ℕ) → Tells (ltb (lengthOf s r) (least s)) (TooSmall s r)
 unfolding least authOnly
 small-told s r = tells-cond _ _ _ _ (tells-eq _ _)
 
--- 4 to 7
+-- 4 to 7: what refuses a record before any key is looked at
 pub record-told : (s : Setting) (r : List ℕ) → Told (recordRows s r) (recordReasons s r)
 unfolding recordRows totalOf
 record-told s r =
     (told-row (tells-lt _ _), (told-row (tells-differ _ _), (told-row (tells-differ _ _), (told-row (small-told s r), tt))))
 
--- 15 and 16
+-- 15 and 16: what refuses a form
 pub form-told : (s : Setting) (p q : ℕ) → Told (formRows s p q) (formReasons s p q)
 unfolding formRows authOnly
 form-told s p q = (told-row (tells-and (tells-eq _ _) (tells-differ _ _)), (told-row (tells-lt _ _), tt))
 
--- 17
+-- 17: what refuses a buffer
 pub room-told : (s : Setting) (p q room : ℕ) → Told (roomRows s p q room) (roomReasons s p q room)
 unfolding roomRows
 room-told s p q room = (told-row (tells-lt _ _), tt)

@@ -1,3 +1,5 @@
+-- `little32` meets its contract.
+-- Assumes nothing.
 use Prim.Native.Nat.{_+_}
 use Rattle.octets.proofs.Puts.{past, field-past, field-two, field-four}
 use mathlib.Core.Path.{sym}

@@ -1,3 +1,5 @@
+-- `length_of` meets its contract.
+-- Assumes nothing.
 use Rattle.record.specs.Header.{lengthOf}
 use borrow.Author.Needs.{needs}
 use Rattle.record.proofs.header.length_of.Statement.{statement}

@@ -1,3 +1,5 @@
+-- `partial_of` meets its contract.
+-- Assumes nothing.
 use Rattle.record.specs.Header.{partialOf}
 use borrow.Author.Needs.{needs}
 use Rattle.record.proofs.header.partial_of.Statement.{statement}

@@ -1,3 +1,5 @@
+-- `put_head` meets its contract.
+-- Assumes nothing.
 use Rattle.octets.proofs.Puts.{putting}
 use Rattle.record.proofs.Writes.{head-written}
 use Rattle.record.specs.Shape.{headLen}

@@ -1,3 +1,5 @@
+-- `session_of` meets its contract.
+-- Assumes nothing.
 use Rattle.record.specs.Header.{sessionOf}
 use borrow.Author.Needs.{needs}
 use Rattle.record.proofs.header.session_of.Statement.{statement}

@@ -1,3 +1,5 @@
+-- `nonce` meets its contract.
+-- Assumes nothing.
 use Rattle.record.specs.Nonce.{nonceOf, spread}
 use mathlib.Core.Path.{refl}
 use borrow.Author.Needs.{needs}

@@ -1,3 +1,5 @@
+-- `place` meets its contract.
+-- Assumes nothing.
 use Rattle.numbers.specs.Contract.{judged, placed}
 use Rattle.record.specs.Header.{numberOf}
 use Rattle.record.specs.Read.{placeRows, placeOf}

@@ -1,3 +1,5 @@
+-- `data_len` meets its contract.
+-- Assumes nothing.
 use Rattle.record.specs.Shape.{innerLen, dataLen}
 use mathlib.Core.Path.{sym, _∙_}
 use borrow.Author.Needs.{needs}

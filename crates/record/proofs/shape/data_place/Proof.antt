@@ -1,3 +1,5 @@
+-- `data_place` meets its contract.
+-- Assumes nothing.
 use Rattle.record.specs.Shape.{dataPlace}
 use mathlib.Core.Path.{sym, _∙_}
 use borrow.Author.Needs.{needs}

@@ -1,3 +1,5 @@
+-- `inner_bad` meets its contract.
+-- Assumes nothing.
 use Rattle.record.specs.Shape.{innerBad}
 use borrow.Author.Needs.{needs}
 use Rattle.record.proofs.shape.inner_bad.Statement.{statement}

@@ -1,3 +1,5 @@
+-- `least` meets its contract.
+-- Assumes nothing.
 use Rattle.record.specs.Shape.{least}
 use Rattle.record.proofs.Forms.{small}
 use native.Mathlib.Omega.{arith}

@@ -1,3 +1,5 @@
+-- `total_of` meets its contract.
+-- Assumes nothing.
 use Rattle.record.proofs.Forms.{small}
 use Rattle.record.specs.Shape.{totalOf}
 use native.Mathlib.Omega.{arith}

@@ -1,3 +1,5 @@
+-- `view` meets its contract.
+-- Assumes nothing.
 use Rattle.record.specs.View.{viewOf}
 use borrow.Author.Tests.{eq-eqb, ne-eqb}
 use mathlib.Core.Path.{_∙_}

@@ -1,3 +1,5 @@
+-- `body_len` meets its contract.
+-- Assumes nothing.
 use Rattle.record.proofs.Forms.{small}
 use Rattle.record.specs.Write.{bodyLen}
 use native.Mathlib.Omega.{arith}

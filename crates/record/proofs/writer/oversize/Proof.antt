@@ -1,3 +1,5 @@
+-- `oversize` meets its contract.
+-- Assumes nothing.
 use Rattle.record.proofs.Forms.{small, long-data}
 use Rattle.record.specs.Write.{bodyLen}
 use Rattle.record.specs.Shape.{macLen, innerLen, mostLength}

@@ -1,3 +1,5 @@
+-- `put_sealed` meets its contract.
+-- Assumes nothing.
 use Rattle.octets.proofs.Puts.{putting}
 use Rattle.record.proofs.Writes.{sealed-written}
 use Rattle.octets.specs.Fields.{little}

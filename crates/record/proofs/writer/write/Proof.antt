@@ -1,3 +1,5 @@
+-- `write` meets its contract.
+-- Assumes nothing.
 use Rattle.record.proofs.Forms.{small, written-no, written-short, written-ok, total-is}
 use Rattle.octets.proofs.Puts.{putting}
 use Rattle.record.proofs.Writes.{body-written}

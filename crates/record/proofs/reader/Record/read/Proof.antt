@@ -1,3 +1,5 @@
+-- `Record::read` meets its contract.
+-- Assumes nothing.
 use Rattle.record.specs.Read.{recordRows, readOf}
 use mathlib.Core.Path.{_∙_}
 use borrow.Author.Needs.{needs}

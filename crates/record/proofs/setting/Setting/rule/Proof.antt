@@ -1,3 +1,5 @@
+-- `Setting::rule` meets its contract.
+-- Assumes nothing.
 use Rattle.record.specs.Setting.{windowWidth}
 use mathlib.Core.Path.{refl}
 use Rattle.record.proofs.setting.Setting.rule.Statement.{statement}

@@ -1,3 +1,5 @@
+-- `Form::plan` meets its contract.
+-- Assumes nothing.
 use Rattle.record.proofs.Forms.{small}
 use Rattle.record.specs.Write.{lengthFor, assocEndFor, formRows, formOf}
 use Rattle.record.specs.Shape.{mostLength}
