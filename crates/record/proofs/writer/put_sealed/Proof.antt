@@ -23,7 +23,9 @@ returns c =
     let h = head-len .ensures in
     let i = inner-len .ensures in
     sealed-written (a .out .now) _ _ _ (headLen (a .setting)) (little (innerLen (a .setting)) (length (a .app .now))) (a .app .now) (a .random .now) (omega arith)
-    (putting _ _ _ _ (rw h at (put-little16 .ensures)) (omega arith)) (putting _ _ _ _ (rw (h, i) at (put .ensures)) (omega arith)) (putting _ _ _ _ (rw (h, i) at (put2 .ensures)) (omega arith))
+    (putting _ _ _ _ (rw h at (put-little16 .ensures)) (omega arith))
+    (putting _ _ _ _ (rw (h, i) at (put .ensures)) (omega arith))
+    (putting _ _ _ _ (rw (h, i) at (put2 .ensures)) (omega arith))
 
 pub put-sealed-spec : {M : Type 1} → statement M
 put-sealed-spec =

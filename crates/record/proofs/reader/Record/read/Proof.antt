@@ -42,7 +42,12 @@ returns-4 c =
     let length-of = c .before .before .before .length-of in
     let least = c .before .before .least in
     let if4 = c .before .if4 in
-    c .refused4 .ensures ∙ rw (rw (head-len .ensures) at (if1 .left), rw (session-of .ensures) at (if2 .left), rw (total-of .ensures) at (if3 .left), rw (length-of .ensures, least .ensures) at (if4 .taken))
+    c .refused4 .ensures ∙ rw (
+      rw (head-len .ensures) at (if1 .left),
+      rw (session-of .ensures) at (if2 .left),
+      rw (total-of .ensures) at (if3 .left),
+      rw (length-of .ensures, least .ensures) at (if4 .taken),
+    )
 
 returns-5 : tie.Need-returns-5
 unfolding readOf recordRows
@@ -59,7 +64,16 @@ returns-5 c =
     let assoc-end = c .before .before .before .assoc-end in
     let text-end = c .before .before .text-end in
     let plain-len = c .before .plain-len in
-    rw (rw (head-len .ensures) at (if1 .left), rw (session-of .ensures) at (if2 .left), rw (total-of .ensures) at (if3 .left), rw (length-of .ensures, least .ensures) at (if4 .left), assoc-end .ensures, text-end .ensures, plain-len .ensures, c .data-place .ensures)
+    rw (
+      rw (head-len .ensures) at (if1 .left),
+      rw (session-of .ensures) at (if2 .left),
+      rw (total-of .ensures) at (if3 .left),
+      rw (length-of .ensures, least .ensures) at (if4 .left),
+      assoc-end .ensures,
+      text-end .ensures,
+      plain-len .ensures,
+      c .data-place .ensures,
+    )
 
 pub read-spec : {M : Type 1} → statement M
 read-spec =

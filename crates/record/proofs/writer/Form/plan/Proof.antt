@@ -60,7 +60,14 @@ returns-3 c =
     let head-len = c .before .before .before .head-len in
     let body-len = c .before .before .body-len in
     let mac-len = c .before .mac-len in
-    rw (rw (auth-only .ensures) at (if1 .left), sym (oversize .ensures) ∙ if2 .left, body-len .ensures, head-len .ensures, mac-len .ensures, sym (auth-only .ensures) ∙ c .if3 .taken)
+    rw (
+      rw (auth-only .ensures) at (if1 .left),
+      sym (oversize .ensures) ∙ if2 .left,
+      body-len .ensures,
+      head-len .ensures,
+      mac-len .ensures,
+      sym (auth-only .ensures) ∙ c .if3 .taken,
+    )
 
 returns-4 : tie.Need-returns-4
 unfolding formOf formRows assocEndFor
@@ -72,7 +79,14 @@ returns-4 c =
     let head-len = c .before .before .before .head-len in
     let body-len = c .before .before .body-len in
     let mac-len = c .before .mac-len in
-    rw (rw (auth-only .ensures) at (if1 .left), sym (oversize .ensures) ∙ if2 .left, body-len .ensures, head-len .ensures, mac-len .ensures, sym (auth-only .ensures) ∙ c .if3 .left)
+    rw (
+      rw (auth-only .ensures) at (if1 .left),
+      sym (oversize .ensures) ∙ if2 .left,
+      body-len .ensures,
+      head-len .ensures,
+      mac-len .ensures,
+      sym (auth-only .ensures) ∙ c .if3 .left,
+    )
 
 pub plan-spec : {M : Type 1} → statement M
 plan-spec =
