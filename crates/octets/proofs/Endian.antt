@@ -1,13 +1,15 @@
--- A number written little-endian and read again, at any place and of any width.
+-- A number written in bytes and read again, at any place and of any width: little-endian, and big-endian as its mirror.
+-- Assumes nothing.
 use Prim.Native.Nat.{ℕ, zero, suc, _+_, _*_, _/_, _%_, _^_, _<_}
-use mathlib.Core.List.{List, [], _∷_, _++_}
-use mathlib.Core.Path.{_≡_, refl, ap, _∙_}
+use mathlib.Core.List.{List, [], _∷_, _++_, append-assoc, reverse, reverse-cons, reverse-reverse}
+use mathlib.Core.Path.{_≡_, refl, sym, ap, _∙_}
 use native.Mathlib.Numerals.{add-one}
-use native.Mathlib.Nat.{pow-suc, mod-eq-of-lt}
+use native.Mathlib.Nat.{zero-add, pow-suc, mod-eq-of-lt}
 use lib.Arith.{mod-mul}
 use native.Mathlib.Omega.{arith}
-use lib.ListN.{length}
-use Rattle.octets.specs.Fields.{field, little}
+use lib.ListN.{length, getD, length-reverse}
+use lib.Seq.{getD-at, getD-append-add}
+use Rattle.octets.specs.Fields.{field, bigField, little, big}
 
 field-next : (x : ℕ) (s : List ℕ) (at k : ℕ) → field (x ∷ s) (at + 1) k ≡ field s at k
 unfolding field
@@ -32,3 +34,52 @@ field-little (suc k) n c =
 -- k bytes of n, written behind a, are read there as n
 pub field-at : (a : List ℕ) (k n : ℕ) (c : List ℕ) → n < 256 ^ k → field (a ++ (little k n ++ c)) (length a) k ≡ n
 field-at a k n c h = field-behind a (little k n ++ c) k ∙ field-little k n c ∙ mod-eq-of-lt h
+
+-- k bytes are k
+pub little-length : (k n : ℕ) → length (little k n) ≡ k
+little-length zero n = refl
+little-length (suc k) n = ap suc (little-length k (n / 256))
+
+-- two numbers with the same k bytes are one
+pub little-one : (k a b : ℕ) → a < 256 ^ k → b < 256 ^ k → little k a ≡ little k b → a ≡ b
+little-one k a b p q e =
+    sym (field-at [] k a [] p) ∙ ap (λ (l : List ℕ). field (l ++ []) 0 k) e ∙ field-at [] k b [] q
+
+-- ---- big-endian
+
+-- the bytes of a number big-endian are those little-endian, the last of them first
+pub big-reverse : (k n : ℕ) → big k n ≡ reverse (little k n)
+big-reverse zero n = refl
+big-reverse (suc k) n =
+    ap (λ (l : List ℕ). l ++ (n % 256 ∷ [])) (big-reverse k (n / 256)) ∙ sym (reverse-cons (n % 256) (little k (n / 256)))
+
+-- k bytes are k
+pub big-length : (k n : ℕ) → length (big k n) ≡ k
+big-length k n = ap length (big-reverse k n) ∙ length-reverse (little k n) ∙ little-length k n
+
+-- two numbers with the same k bytes are one
+pub big-one : (k a b : ℕ) → a < 256 ^ k → b < 256 ^ k → big k a ≡ big k b → a ≡ b
+big-one k a b p q e =
+    let r : reverse (little k a) ≡ reverse (little k b) = sym (big-reverse k a) ∙ e ∙ big-reverse k b in
+    little-one k a b p q (sym (reverse-reverse (little k a)) ∙ ap reverse r ∙ reverse-reverse (little k b))
+
+-- what stands before a number does not count
+pub bigField-behind : (a s : List ℕ) (k : ℕ) → bigField (a ++ s) (length a) k ≡ bigField s 0 k
+unfolding bigField
+bigField-behind a s zero = refl
+bigField-behind a s (suc k) = rw (bigField-behind a s k, getD-append-add a s k 0, zero-add k)
+
+-- k bytes of n are read as n, but for what they can not hold
+pub bigField-big : (k n : ℕ) (c : List ℕ) → bigField (big k n ++ c) 0 k ≡ n % 256 ^ k
+unfolding bigField
+bigField-big zero n c = omega arith
+bigField-big (suc k) n c =
+    let front : List ℕ = big k (n / 256) in
+    ap (λ (l : List ℕ). 256 * bigField l 0 k + getD l (0 + k) 0) (append-assoc front (n % 256 ∷ []) c)
+    ∙ ap (λ (x : ℕ). 256 * x + getD (front ++ (n % 256 ∷ c)) (0 + k) 0) (bigField-big k (n / 256) (n % 256 ∷ c))
+    ∙ ap (λ (x : ℕ). 256 * ((n / 256) % 256 ^ k) + x) (getD-at front (n % 256) c 0 (0 + k) (big-length k (n / 256) ∙ sym (zero-add k)))
+    ∙ omega (arith, mod-mul n {m = 256 ^ k} {c = 256} (pow-pos256 k) (omega arith), ap (λ (x : ℕ). n % x) (pow-suc 256 k))
+
+-- k bytes of n, written big-endian behind a, are read there as n
+pub bigField-at : (a : List ℕ) (k n : ℕ) (c : List ℕ) → n < 256 ^ k → bigField (a ++ (big k n ++ c)) (length a) k ≡ n
+bigField-at a k n c h = bigField-behind a (big k n ++ c) k ∙ bigField-big k n c ∙ mod-eq-of-lt h

@@ -1,2 +1,5 @@
 pub mod Endian
 pub mod Puts
+pub mod Blank
+pub mod OneAnswer
+pub mod Xor

@@ -31,6 +31,10 @@ pub put-fits : (d : List ℕ) (at : ℕ) (src : List ℕ) → at + length src �
 unfolding put
 put-fits d at src h = rw (le-leb _ _ h)
 
+-- what was put where there is room
+pub putting : (d e : List ℕ) (at : ℕ) (src : List ℕ) → e ≡ put d at src → at + length src ≤ length d → e ≡ over d at src
+putting d e at src p h = p ∙ sym (put-fits d at src h)
+
 pub put-not : (d : List ℕ) (at : ℕ) (src : List ℕ) → length d < at + length src → d ≡ put d at src
 unfolding put
 put-not d at src h = rw (lt-leb _ _ h)

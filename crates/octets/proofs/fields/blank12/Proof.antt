@@ -1,3 +1,5 @@
+-- `blank12` meets its contract.
+-- Assumes nothing.
 use Rattle.octets.specs.Fields.{blank}
 use mathlib.Core.Path.{refl}
 use borrow.Author.Needs.{needs}

@@ -1,3 +1,5 @@
+-- `byte` meets its contract.
+-- Assumes nothing.
 use Rattle.octets.proofs.Puts.{past}
 use mathlib.Core.Path.{sym}
 use borrow.Author.Needs.{needs}

@@ -1,3 +1,5 @@
+-- `little16` meets its contract.
+-- Assumes nothing.
 use Rattle.octets.proofs.Puts.{field-past, field-two}
 use mathlib.Core.Path.{sym}
 use native.Mathlib.Omega.{arith}

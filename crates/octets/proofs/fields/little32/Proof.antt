@@ -1,3 +1,5 @@
+-- `little32` meets its contract.
+-- Assumes nothing.
 use Prim.Native.Nat.{_+_}
 use Rattle.octets.proofs.Puts.{past, field-past, field-two, field-four}
 use mathlib.Core.Path.{sym}
@@ -32,7 +34,14 @@ returns-2 c =
     let args = c .before .before .before .before .args in
     let if2 = c .before .if2 in
     let a = args in
-    omega (arith, c .byte .ensures .0, field-four (a .s .now) (a .at), field-two (a .s .now) (a .at), past (a .s .now) _ (if2 .taken), field-past (a .s .now) (a .at + 1 + 1) 2 (omega arith))
+    omega (
+      arith,
+      c .byte .ensures .0,
+      field-four (a .s .now) (a .at),
+      field-two (a .s .now) (a .at),
+      past (a .s .now) _ (if2 .taken),
+      field-past (a .s .now) (a .at + 1 + 1) 2 (omega arith),
+    )
 
 -- src/fields.rt:43:14
 add-a2 : tie.Need-add-a2

@@ -1,3 +1,5 @@
+-- `put` meets its contract.
+-- Assumes nothing.
 use Rattle.octets.proofs.Puts.{put-fits, put-not}
 use mathlib.Core.Path.{_∙_}
 use native.Mathlib.Omega.{arith}

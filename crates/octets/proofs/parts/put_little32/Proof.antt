@@ -1,3 +1,5 @@
+-- `put_little32` meets its contract.
+-- Assumes nothing.
 use lib.Seq.{sets-eq}
 use lib.ListN.{length-set}
 use native.Mathlib.Numerals.{add-one}

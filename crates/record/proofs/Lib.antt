@@ -1,0 +1,9 @@
+pub mod Forms
+pub mod Sizes
+pub mod Writes
+pub mod Page
+pub mod Zeros
+pub mod Told
+pub mod Distinct
+pub mod Limits
+pub mod OneAnswer

@@ -1,0 +1,70 @@
+-- What refuses a setting, a record, a form and a buffer, exactly when: each test of the tables tells its reason in page 01's words.
+-- Assumes nothing.
+use Prim.Native.Nat.{ℕ, _-_, _≤_, _<_}
+use mathlib.Core.Bool.{Bool, true, false, cond}
+use mathlib.Core.List.{List}
+use mathlib.Core.Logic.{_⊎_, inl, inr}
+use mathlib.Core.Path.{_≡_, refl}
+use native.Mathlib.Omega.{arith}
+use lib.Dec.{ltb}
+use borrow.Author.Tests.{ne-eqb}
+use Rattle.answers.specs.Reasons.{Tells, Told}
+use Rattle.answers.proofs.Reasons.{told-row}
+use Rattle.answers.proofs.Tests.{tells-lt, tells-eq, tells-not, tells-or, tells-and, tells-differ}
+use Rattle.record.specs.declared.setting.Setting.{Setting}
+use Rattle.record.specs.Setting.{authOnly, badSetting, openRows}
+use Rattle.record.specs.Header.{lengthOf}
+use Rattle.record.specs.Shape.{innerLen, least, totalOf, plainLen, dataLen, innerBad}
+use Rattle.record.specs.Read.{recordRows}
+use Rattle.record.specs.Write.{formRows, roomRows}
+use Rattle.record.specs.Reasons.{TooSmall, TooLong, openReasons, recordReasons, formReasons, roomReasons}
+
+-- 2: what Open refuses
+pub open-told : (s : Setting) → Told (openRows s) (openReasons s)
+unfolding openRows badSetting
+open-told s = (told-row (tells-or (tells-lt _ _) (tells-eq _ _)), tt)
+
+-- a bound that depends on a test
+tells-cond : (b : Bool) {p : Type 0} (x m n : ℕ) → Tells b p → Tells (ltb x (cond b m n)) ((p × (x < m)) ⊎ ((p → ⊥) × (x < n)))
+tells-cond true {p} x m n t = record { holds = λ e. inl (t .holds refl, tells-lt x m .holds e); fails = λ e. go e }
+  where
+    go : ltb x m ≡ false → (p × (x < m)) ⊎ ((p → ⊥) × (x < n)) → ⊥
+    go e (inl w) = tells-lt x m .fails e (w .1)
+    go e (inr w) = w .0 (t .holds refl)
+tells-cond false {p} x m n t = record { holds = λ e. inr (t .fails refl, tells-lt x n .holds e); fails = λ e. go e }
+  where
+    go : ltb x n ≡ false → (p × (x < m)) ⊎ ((p → ⊥) × (x < n)) → ⊥
+    go e (inl w) = t .fails refl (w .0)
+    go e (inr w) = tells-lt x n .fails e (w .1)
+
+-- 7: the least Length depends on the mode
+small-told : (s : Setting) (r : List ℕ) → Tells (ltb (lengthOf s r) (least s)) (TooSmall s r)
+unfolding least authOnly
+small-told s r = tells-cond _ _ _ _ (tells-eq _ _)
+
+-- 4 to 7: what refuses a record before any key is looked at
+pub record-told : (s : Setting) (r : List ℕ) → Told (recordRows s r) (recordReasons s r)
+unfolding recordRows totalOf
+record-told s r =
+    (told-row (tells-lt _ _), (told-row (tells-differ _ _), (told-row (tells-differ _ _), (told-row (small-told s r), tt))))
+
+-- 15 and 16: what refuses a form
+pub form-told : (s : Setting) (p q : ℕ) → Told (formRows s p q) (formReasons s p q)
+unfolding formRows authOnly
+form-told s p q = (told-row (tells-and (tells-eq _ _) (tells-differ _ _)), (told-row (tells-lt _ _), tt))
+
+-- 17: what refuses a buffer
+pub room-told : (s : Setting) (p q room : ℕ) → Told (roomRows s p q room) (roomReasons s p q room)
+unfolding roomRows
+room-told s p q room = (told-row (tells-lt _ _), tt)
+
+-- 14, for a record whose text has room for the data length
+pub inner-told : (s : Setting) (r plain : List ℕ) → (authOnly s ≡ false → innerLen s ≤ plainLen s r)
+    → Tells (innerBad s r plain) (TooLong s r plain)
+unfolding innerBad authOnly
+inner-told s r plain h =
+    let t = tells-and (tells-not (tells-eq (s .mode) 0)) (tells-lt (plainLen s r - innerLen s) (dataLen s r plain)) in
+    record {
+      holds = λ e. (t .holds e .0, omega (arith, t .holds e .1, h (ne-eqb _ _ (t .holds e .0))));
+      fails = λ e w. t .fails e (w .0, omega (arith, w .1, h (ne-eqb _ _ (w .0))));
+    }

@@ -1,0 +1,13 @@
+-- `Setting::rule` meets its contract.
+-- Assumes nothing.
+use Rattle.record.specs.Setting.{windowWidth}
+use mathlib.Core.Path.{refl}
+use Rattle.record.proofs.setting.Setting.rule.Statement.{statement}
+use Rattle.record.proofs.setting.Setting.rule.Tie as tie
+
+returns : tie.Need-returns
+unfolding windowWidth
+returns c = refl
+
+pub rule-spec : {M : Type 1} → statement M
+rule-spec = tie.close (tie.spec returns)

@@ -1,0 +1,48 @@
+// How a channel is set.
+use numbers::Rule;
+use numbers::Window;
+ghost use mathlib.Core.Path.{_≡_};
+ghost use Rattle.record.specs.Setting.{zeroSetting, authOnly, badSetting, ruleOf};
+
+// Mode 0 is message authentication only, mode 1 encryption and authentication. Usable numbers are
+// those below the limit.
+pub struct Setting {
+    pub mode: u8,
+    pub session: u32,
+    pub limit: u64,
+}
+
+impl Setting {
+    pub fn zeros() -> Setting
+        ensures { λ r. ⌜ r ≡ zeroSetting ⌝ }
+    {
+        Setting {
+            mode: 0,
+            session: 0,
+            limit: 0,
+        }
+    }
+
+    pub fn auth_only(self) -> bool
+        ensures { λ r. ⌜ r ≡ authOnly self ⌝ }
+    {
+        self.mode == 0
+    }
+
+    // Whether Open refuses it.
+    pub fn is_bad(self) -> bool
+        ensures { λ r. ⌜ r ≡ badSetting self ⌝ }
+    {
+        (1 < self.mode) | (self.limit == 0)
+    }
+
+    // The rule of its keys.
+    pub fn rule(self) -> Rule
+        ensures { λ r. ⌜ r ≡ ruleOf self ⌝ }
+    {
+        Rule {
+            width: Window::WIDTH,
+            limit: self.limit,
+        }
+    }
+}
