@@ -1,20 +1,18 @@
 -- What refuses a setting, a record, a form and a buffer, exactly when: each test of the tables tells its reason in page 01's words.
 -- Assumes nothing.
-use Prim.Native.Nat.{ℕ, _-_, _≤_, _<_}
+use Prim.Native.Nat.{ℕ, _<_}
 use mathlib.Core.Bool.{Bool, true, false, cond}
 use mathlib.Core.List.{List}
 use mathlib.Core.Logic.{_⊎_, inl, inr}
 use mathlib.Core.Path.{_≡_, refl}
-use native.Mathlib.Omega.{arith}
 use lib.Dec.{ltb}
-use borrow.Author.Tests.{ne-eqb}
 use Rattle.answers.specs.Reasons.{Tells, Told}
 use Rattle.answers.proofs.Reasons.{told-row}
 use Rattle.answers.proofs.Tests.{tells-lt, tells-eq, tells-not, tells-or, tells-and, tells-differ}
 use Rattle.record.specs.declared.setting.Setting.{Setting}
 use Rattle.record.specs.Setting.{authOnly, badSetting, openRows}
 use Rattle.record.specs.Header.{lengthOf}
-use Rattle.record.specs.Shape.{innerLen, least, totalOf, plainLen, dataLen, innerBad}
+use Rattle.record.specs.Shape.{least, totalOf, innerBad}
 use Rattle.record.specs.Read.{recordRows}
 use Rattle.record.specs.Write.{formRows, roomRows}
 use Rattle.record.specs.Reasons.{TooSmall, TooLong, openReasons, recordReasons, formReasons, roomReasons}
@@ -58,13 +56,7 @@ pub room-told : (s : Setting) (p q room : ℕ) → Told (roomRows s p q room) (r
 unfolding roomRows
 room-told s p q room = (told-row (tells-lt _ _), tt)
 
--- 14, for a record whose text has room for the data length
-pub inner-told : (s : Setting) (r plain : List ℕ) → (authOnly s ≡ false → innerLen s ≤ plainLen s r)
-    → Tells (innerBad s r plain) (TooLong s r plain)
+-- 14
+pub inner-told : (s : Setting) (r plain : List ℕ) → Tells (innerBad s r plain) (TooLong s r plain)
 unfolding innerBad authOnly
-inner-told s r plain h =
-    let t = tells-and (tells-not (tells-eq (s .mode) 0)) (tells-lt (plainLen s r - innerLen s) (dataLen s r plain)) in
-    record {
-      holds = λ e. (t .holds e .0, omega (arith, t .holds e .1, h (ne-eqb _ _ (t .holds e .0))));
-      fails = λ e w. t .fails e (w .0, omega (arith, w .1, h (ne-eqb _ _ (w .0))));
-    }
+inner-told s r plain = tells-and (tells-not (tells-eq _ _)) (tells-lt _ _)

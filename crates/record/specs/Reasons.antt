@@ -1,6 +1,6 @@
 -- Why a setting, a record, a form and a buffer are refused, in page 01's words and order.
 -- Assumes nothing.
-use Prim.Native.Nat.{ℕ, _+_, _<_}
+use Prim.Native.Nat.{ℕ, _+_, _-_, _<_}
 use mathlib.Core.List.{List, [], _∷_}
 use mathlib.Core.Logic.{_⊎_}
 use mathlib.Core.Path.{_≡_}
@@ -21,9 +21,9 @@ abbrev pub TooSmall : Setting → List ℕ → Type 0
 TooSmall s r =
     ((s .mode ≡ 0) × (lengthOf s r < macLen s)) ⊎ ((s .mode ≡ 0 → ⊥) × (lengthOf s r < innerLen s + macLen s))
 
--- mode 1, data length above what is there
+-- mode 1, data length above Length - 18, which is what is there behind the length field
 abbrev pub TooLong : Setting → List ℕ → List ℕ → Type 0
-TooLong s r plain = (s .mode ≡ 0 → ⊥) × (plainLen s r < innerLen s + dataLen s r plain)
+TooLong s r plain = (s .mode ≡ 0 → ⊥) × (plainLen s r - innerLen s < dataLen s r plain)
 
 abbrev pub openReasons : Setting → List Reason
 openReasons s = BadSetting s refuses Refusal.Setting ∷ []

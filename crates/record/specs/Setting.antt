@@ -1,7 +1,7 @@
 -- The setting of a channel, and what it gives the windows of its keys.
 -- Assumes nothing.
 use Prim.Native.Nat.{ℕ}
-use mathlib.Core.Bool.{Bool, _||_}
+use mathlib.Core.Bool.{Bool, _&&_, _||_}
 use mathlib.Core.List.{List, [], _∷_}
 use lib.Dec.{ltb, eqb}
 use Rattle.answers.specs.Refusal as Refusal
@@ -12,6 +12,10 @@ use Rattle.record.specs.declared.setting.Setting.{Setting}
 
 abbrev pub zeroSetting : Setting
 zeroSetting = record { mode = 0; session = 0; limit = 0 }
+
+-- all its fields are zero
+unfoldable pub isZeroSetting : Setting → Bool
+isZeroSetting s = eqb (s .mode) 0 && eqb (s .session) 0 && eqb (s .limit) 0
 
 -- mode 0: message authentication only
 unfoldable pub authOnly : Setting → Bool

@@ -1,0 +1,7 @@
+pub mod Outcome
+pub mod Look
+pub mod Calls
+pub mod Build
+pub mod OneAnswer
+pub mod Zeros
+pub mod Decisions

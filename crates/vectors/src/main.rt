@@ -1,0 +1,14 @@
+// Page 01's worked cases ('Run by a program and compared'), one line each.
+mod print;
+mod records;
+mod sizes;
+mod wrapping;
+
+fn main() {
+    records::both_modes();
+    records::nonce();
+    sizes::largest();
+    sizes::smallest();
+    wrapping::inner();
+    wrapping::outer();
+}
