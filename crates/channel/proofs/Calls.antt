@@ -2,8 +2,9 @@
 -- Assumes nothing.
 use Prim.Native.Nat.{ℕ}
 use mathlib.Core.Bool.{Bool, true, false, not, _||_}
-use mathlib.Core.List.{List, [], _∷_, _++_}
-use mathlib.Core.Path.{_≡_, sym, ap, _∙_}
+use mathlib.Core.List.{List, _++_}
+use mathlib.Core.Path.{_≡_, refl, sym, ap, _∙_}
+use native.Mathlib.Omega.{arith}
 use lib.ListN.{length}
 use Rattle.answers.specs.Refusal as Refusal
 use Rattle.answers.specs.Refusal.{marks}
@@ -15,14 +16,14 @@ use Rattle.numbers.specs.Contract.{widthOf}
 use Rattle.numbers.specs.Contract as Window
 use Rattle.record.specs.Setting.{ruleOf}
 use Rattle.record.specs.Nonce.{nonceOf}
-use Rattle.record.specs.Shape.{dataLen, innerBad}
+use Rattle.record.specs.Shape.{plainLen, dataLen, innerBad}
 use Rattle.record.specs.Read.{recordRows, placeRows}
 use Rattle.channel.specs.declared.receiver.Receiver.{Receiver}
 use Rattle.channel.specs.declared.delivery.Looked.{Looked}
 use Rattle.channel.specs.declared.delivery.Offered.{Offered}
 use Rattle.channel.specs.declared.delivery.Settled.{Settled}
 use Rattle.channel.specs.declared.receiver.Counted.{Counted}
-use Rattle.channel.specs.View.{Face, countAt, noKey}
+use Rattle.channel.specs.View.{Face, countAt, numberAt, noKey}
 use Rattle.channel.specs.Call.{Call, offer, settle, only, marking}
 use Rattle.channel.specs.Call as Call
 use Rattle.channel.specs.Rules.{stateRows, slotRows, offerRows, cipherRows, markingRows, rows, granted, effectOf}
@@ -69,37 +70,63 @@ module _ (r : Receiver) (rec : List ℕ) (slot : ℕ) (l : Looked) (e : l ≡ lo
         rw (answer-no r call (l .answer) w h, after-no r call (l .answer) w h (look-quiet r rec slot l e))
 
     -- the rest of the table, as the code asks it
-    abbrev pub late : List Check
-    late =
-        (differ count (countAt (look r) slot) || differ number (l .number), Refusal.Stale)
-        ∷ (differ (length plain) (l .plain), Refusal.Plain)
-        ∷ (not passed, Refusal.Mac)
-        ∷ (innerBad (r .setting) rec plain, Refusal.Inner)
-        ∷ []
+    module _ (h : l .answer ≡ 0) where
+      late : List Check
+      late = cipherRows (look r) rec slot count number passed plain ++ markingRows (look r) rec plain
 
-    module _ (h : l .answer ≡ 0) (w : ℕ) (q : first late ≡ w) where
-      settle-why : first (rows (look r) (settle rec slot count number passed plain)) ≡ w
-      unfolding rows offerRows slotRows stateRows recordRows placeRows numberRows cipherRows markingRows look
-      settle-why =
+      late-first : first (rows (look r) (settle rec slot count number passed plain)) ≡ first late
+      unfolding rows offerRows slotRows stateRows recordRows placeRows numberRows late
+      late-first =
           first-past (offerRows (look r) rec slot) (cipherRows (look r) rec slot count number passed plain ++ markingRows (look r) rec plain)
           tt (look-why r rec slot l e ∙ h)
-          ∙ (rw (look-is r rec slot l e h) at q)
 
-      pub settle-no : (w ≡ 0 → ⊥) → marks w ≡ false → settled (only w) r ≡ settleOf r rec slot count number passed plain
-      settle-no n m = rw (answer-no r call w settle-why n, after-no r call w settle-why n m)
+      -- ---- a refusal that keeps the state
 
-      pub settle-mark : (w ≡ 0 → ⊥) → marks w ≡ true
-          → settled (only w) (change r (marking slot number)) ≡ settleOf r rec slot count number passed plain
-      unfolding effectOf
-      settle-mark n m = rw (answer-no r call w settle-why n, after-mark r call w settle-why n m)
+      settle-no : (w : ℕ) → first (rows (look r) call) ≡ w → (w ≡ 0 → ⊥) → marks w ≡ false
+          → settled (only w) r ≡ settleOf r rec slot count number passed plain
+      settle-no w q n m = rw (answer-no r call w q n, after-no r call w q n m)
 
-      pub settle-ok : w ≡ 0
-          → _≡_ {A = Settled}
-          (record { answer = 0; place = l .place; length = dataLen (r .setting) rec plain; next = change r (marking slot number) })
-          (settleOf r rec slot count number passed plain)
-      unfolding granted effectOf look
-      settle-ok z =
-          rw (answer-ok r call (settle-why ∙ z), after-ok r call (settle-why ∙ z), look-is r rec slot l e h)
+      stale : {b : Bool} → (differ count (countAt (look r) slot) || differ number (l .number)) ≡ b
+          → (differ count (countAt (look r) slot) || differ number (numberAt (look r) rec slot)) ≡ b
+      stale t = rw (ap (λ (x : Looked). x .number) (look-is r rec slot l e h)) at t
+
+      unfit : {b : Bool} → differ (length plain) (l .plain) ≡ b → differ (length plain) (plainLen (r .setting) rec) ≡ b
+      unfit t = rw (ap (λ (x : Looked). x .plain) (look-is r rec slot l e h)) at t
+
+      pub settle-stale : (differ count (countAt (look r) slot) || differ number (l .number)) ≡ true
+          → settled (only Refusal.Stale) r ≡ settleOf r rec slot count number passed plain
+      unfolding late cipherRows marks
+      settle-stale t = settle-no Refusal.Stale (late-first ∙ rw (stale t)) (λ z. omega arith) refl
+
+      module _ (t : (differ count (countAt (look r) slot) || differ number (l .number)) ≡ false) where
+        pub settle-plain : differ (length plain) (l .plain) ≡ true
+            → settled (only Refusal.Plain) r ≡ settleOf r rec slot count number passed plain
+        unfolding late cipherRows marks look
+        settle-plain u = settle-no Refusal.Plain (late-first ∙ rw (stale t, unfit u)) (λ z. omega arith) refl
+
+        module _ (u : differ (length plain) (l .plain) ≡ false) where
+          pub settle-mac : not passed ≡ true → settled (only Refusal.Mac) r ≡ settleOf r rec slot count number passed plain
+          unfolding late cipherRows marks look
+          settle-mac p = settle-no Refusal.Mac (late-first ∙ rw (stale t, unfit u, p)) (λ z. omega arith) refl
+
+          -- ---- the record is authentic: its number is marked
+
+          module _ (p : not passed ≡ false) {next : Receiver} (n : next ≡ change r (marking slot number)) where
+            pub settle-inner : innerBad (r .setting) rec plain ≡ true
+                → settled (only Refusal.Inner) next ≡ settleOf r rec slot count number passed plain
+            unfolding late cipherRows markingRows marks effectOf look
+            settle-inner b =
+                let w : first (rows (look r) call) ≡ Refusal.Inner = late-first ∙ rw (stale t, unfit u, p, b) in
+                rw (n, answer-no r call Refusal.Inner w (λ z. omega arith), after-mark r call Refusal.Inner w (λ z. omega arith) refl)
+
+            pub settle-ok : innerBad (r .setting) rec plain ≡ false
+                → _≡_ {A = Settled}
+                (record { answer = 0; place = l .place; length = dataLen (r .setting) rec plain; next = next })
+                (settleOf r rec slot count number passed plain)
+            unfolding late cipherRows markingRows granted effectOf look
+            settle-ok b =
+                let w : first (rows (look r) call) ≡ 0 = late-first ∙ rw (stale t, unfit u, p, b) in
+                rw (n, answer-ok r call w, after-ok r call w, look-is r rec slot l e h)
 
 -- ---- Gaps
 
