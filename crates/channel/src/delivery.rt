@@ -112,6 +112,8 @@ impl Receiver {
         }
     }
 
+    // Which key, number, nonce and bytes the cipher is to check. The checks 1, 3 to 10; it answers no
+    // state, so nothing is marked before the cipher said yes.
     pub fn offer(self, rec: &[u8], slot: u8) -> Offered
         ensures { λ r. ⌜ r ≡ offerOf self (now (rec .entry)) slot ⌝ }
     {
@@ -151,6 +153,8 @@ impl Receiver {
         }
     }
 
+    // What the cipher said of an offered record. The checks 1, 3 to 14, made on this state and not on
+    // the one that was offered to, since the window may have moved between.
     pub fn settle(
         self,
         rec: &[u8],

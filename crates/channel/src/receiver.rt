@@ -62,6 +62,7 @@ impl Receiver {
         }
     }
 
+    // A new channel, or zeros, which every later call refuses. The check 2.
     pub fn open(setting: Setting, iv: [u8; 12]) -> ReceiverStep
         ensures { λ r. ⌜ r ≡ openReceiver setting iv ⌝ }
     {
@@ -115,6 +116,7 @@ impl Receiver {
         if self.count == 0 { 0 } else { self.count - 1 }
     }
 
+    // How many of the last numbers are missing under the slot's key. The checks 1, 3.
     pub fn gaps(self, slot: u8) -> Counted
         ensures { λ r. ⌜ r ≡ gapsOf self slot ⌝ }
     {
@@ -135,7 +137,7 @@ impl Receiver {
         }
     }
 
-    // A new IV: the current key becomes the old one, with its window.
+    // A new IV: the current key becomes the old one, with its window. The checks 1, 18, 19.
     pub fn change_key(self, iv: [u8; 12]) -> ReceiverStep
         ensures { λ r. ⌜ r ≡ changeReceiver self iv ⌝ }
     {
@@ -160,7 +162,7 @@ impl Receiver {
         ReceiverStep::with(0, next)
     }
 
-    // The old key is forgotten.
+    // The old key is forgotten. The checks 1, 3.
     pub fn drop(self) -> ReceiverStep
         ensures { λ r. ⌜ r ≡ dropOf self ⌝ }
     {

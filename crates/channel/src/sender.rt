@@ -60,6 +60,7 @@ impl Sender {
         }
     }
 
+    // A new channel, or zeros, which every later call refuses. The check 2.
     pub fn open(setting: Setting, iv: [u8; 12]) -> SenderStep
         ensures { λ r. ⌜ r ≡ openSender setting iv ⌝ }
     {
@@ -84,7 +85,8 @@ impl Sender {
         setting.is_bad() | (setting.limit < self.next)
     }
 
-    // All of a record but its MAC, at the start of `out`.
+    // All of a record but its MAC, at the start of `out`. The checks 1, 8, 15 to 17. The number is spent
+    // with it, whatever the host's cipher then does.
     pub fn build(self, app: &[u8], random: &[u8], out: &mut [u8]) -> Built
         ensures { λ r. ⌜ (r ≡ buildOf self (length (now (app .entry))) (length (now (random .entry))) (length (now (out .entry)))) × (now (out .exit) ≡ buildOut self (now (app .entry)) (now (random .entry)) (now (out .entry))) ⌝ }
     {
@@ -121,7 +123,7 @@ impl Sender {
         }
     }
 
-    // A new IV, and the numbers from 0 again.
+    // A new IV, and the numbers from 0 again. The checks 1, 19.
     pub fn change_key(self, iv: [u8; 12]) -> SenderStep
         ensures { λ r. ⌜ r ≡ changeSender self iv ⌝ }
     {
