@@ -31,12 +31,12 @@ use Rattle.record.specs.declared.setting.Setting.{Setting}
 use Rattle.promises.specs.Run.{afterBy, reachBy, reached}
 use Rattle.promises.specs.Barred.{RepeatOrOld, Holds, nextIn, Barred}
 use Rattle.promises.specs.Plain.{PlainKey, Plain, newPlain, oldOf, plainLook, plainChange}
-use Rattle.promises.specs.Passed.{slot-numbered, frame-numbered, Passed, settle-passed}
-use Rattle.promises.specs.Good.{good-parts, held-there}
-use Rattle.promises.specs.Alike.{Alike}
-use Rattle.promises.specs.Simulation.{Related, views, step-related, related-new}
-use Rattle.promises.specs.Refusals.{zero-state}
-use Rattle.promises.specs.Once.{Known, keysOf, known-now, known-older, kept, Sane, unknown, known-after, sane}
+use Rattle.promises.proofs.Passed.{slot-numbered, frame-numbered, Passed, settle-passed}
+use Rattle.promises.proofs.Good.{good-parts, held-there}
+use Rattle.promises.proofs.Alike.{Alike}
+use Rattle.promises.proofs.Simulation.{Related, views, step-related, related-new}
+use Rattle.promises.proofs.Refusals.{zero-state}
+use Rattle.promises.proofs.Once.{Known, keysOf, known-now, known-older, kept, Sane, unknown, known-after, sane}
 
 -- ---- the nearest number: its low 16 bits, where it lies, and that no other lies so
 

@@ -35,11 +35,11 @@ use Rattle.record.specs.View.{viewOf}
 use Rattle.record.specs.Write.{bodyLen, lengthFor, textEndFor, assocEndFor, totalFor, formRows, roomRows, bodyOf, frontOf}
 use Rattle.record.specs.declared.setting.Setting.{Setting}
 use Rattle.promises.specs.Premises.{CanBuild, keyIn, CanTake, sealedRecord, textOf}
-use Rattle.promises.specs.Passed.{slot-numbered, frame-passed, frame-numbered}
-use Rattle.promises.specs.Refusals.{sender-parts}
+use Rattle.promises.proofs.Passed.{slot-numbered, frame-passed, frame-numbered}
+use Rattle.promises.proofs.Refusals.{sender-parts}
 use Rattle.promises.specs.World.{sentOf}
-use Rattle.promises.specs.Made.{head-length, Wrote, wrote, made-build, made-seal, seal-field, body-auth, shown}
-use Rattle.promises.specs.Replay.{near-only, slot-none}
+use Rattle.promises.proofs.Made.{head-length, Wrote, wrote, made-build, made-seal, seal-field, body-auth, shown}
+use Rattle.promises.proofs.Replay.{near-only, slot-none}
 
 -- ---- Build answers 0
 

@@ -20,7 +20,7 @@ use Rattle.numbers.specs.declared.window.Window.{Window}
 use Rattle.octets.specs.Fields.{blank}
 use Rattle.record.specs.Setting.{badSetting, openRows, ruleOf}
 use Rattle.record.specs.declared.setting.Setting.{Setting}
-use Rattle.promises.specs.Passed.{Allowed, marks, allowed}
+use Rattle.promises.proofs.Passed.{Allowed, marks, allowed}
 
 -- ---- the rules
 

@@ -22,9 +22,9 @@ use Rattle.record.specs.declared.setting.Setting.{Setting}
 use Rattle.promises.specs.Tools.{Distinct, none, more, or-true-left, or-more}
 use Rattle.promises.specs.Run.{afterBy, answersBy, answersOf, markedBy, allMarked, Item, pairOf, handedBy, allHanded}
 use Rattle.promises.specs.Plain.{PlainKey, Plain, openPlain, oldOf, plainLook, remember, rememberFirst, plainChange, plainAnswers}
-use Rattle.promises.specs.Passed.{Passed, settle-passed}
-use Rattle.promises.specs.Good.{held-there}
-use Rattle.promises.specs.Simulation.{as-plain}
+use Rattle.promises.proofs.Passed.{Passed, settle-passed}
+use Rattle.promises.proofs.Good.{held-there}
+use Rattle.promises.proofs.Simulation.{as-plain}
 
 -- ---- what the plain receiver remembers: n is among the numbers of the key with count c
 

@@ -24,7 +24,7 @@ use Rattle.record.specs.View.{viewOf}
 use Rattle.record.specs.Write.{bodyLen, lengthFor, textEndFor, assocEndFor, totalFor, formRows, roomRows, bodyOf, frontOf}
 use Rattle.record.specs.declared.setting.Setting.{Setting}
 use Rattle.promises.specs.World.{Sent, sentOf, assocOf}
-use Rattle.promises.specs.Passed.{Frame}
+use Rattle.promises.proofs.Passed.{Frame}
 
 -- ---- lengths
 

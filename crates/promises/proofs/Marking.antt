@@ -19,8 +19,8 @@ use Rattle.numbers.specs.Contract.{widthOf, seenBy, soundWindow, after}
 use Rattle.numbers.specs.declared.window.Window.{Window}
 use Rattle.record.specs.Setting.{ruleOf}
 use Rattle.record.specs.declared.setting.Setting.{Setting}
-use Rattle.promises.specs.Passed.{PlaceIn, settle-passed}
-use Rattle.promises.specs.Good.{Good, good-parts}
+use Rattle.promises.proofs.Passed.{PlaceIn, settle-passed}
+use Rattle.promises.proofs.Good.{Good, good-parts}
 use Rattle.promises.specs.Premises.{keyIn}
 
 pub record MarksJust (r x : Receiver) (slot n : ℕ) : Type 0 where

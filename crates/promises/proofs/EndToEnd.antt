@@ -28,11 +28,11 @@ use Rattle.record.specs.View.{viewOf}
 use Rattle.record.specs.declared.setting.Setting.{Setting}
 use Rattle.promises.specs.Tools.{Distinct}
 use Rattle.promises.specs.Run.{afterBy, answersBy, answersOf, Item, pairOf, handedBy, allHanded}
-use Rattle.promises.specs.Passed.{Passed, settle-passed}
-use Rattle.promises.specs.Once.{handed-once}
-use Rattle.promises.specs.Refusals.{zero-state}
+use Rattle.promises.proofs.Passed.{Passed, settle-passed}
+use Rattle.promises.proofs.Once.{handed-once}
+use Rattle.promises.proofs.Refusals.{zero-state}
 use Rattle.promises.specs.World.{Step, build, turn, seal, receive, Sent, World, sentOf, at, next, start, Each, handedIn, HandsSealed, Cipher, Honest, HonestCall}
-use Rattle.promises.specs.Made.{Made, made-build, shown}
+use Rattle.promises.proofs.Made.{Made, made-build, shown}
 
 -- ---- what holds of the world all along
 

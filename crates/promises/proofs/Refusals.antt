@@ -31,7 +31,7 @@ use Rattle.record.specs.Setting.{badSetting, openRows}
 use Rattle.record.specs.View.{viewOf}
 use Rattle.record.specs.Write.{formRows, roomRows}
 use Rattle.record.specs.declared.setting.Setting.{Setting}
-use Rattle.promises.specs.Simulation.{bad-outcome, zero-bad, zero-setting}
+use Rattle.promises.proofs.Simulation.{bad-outcome, zero-bad, zero-setting}
 
 -- ---- the receiver
 

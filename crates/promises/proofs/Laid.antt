@@ -16,9 +16,9 @@ use Rattle.record.specs.Setting.{authOnly}
 use Rattle.record.specs.Shape.{headLen, innerLen, macLen}
 use Rattle.record.specs.Write.{bodyLen, lengthFor, bodyOf, frontOf}
 use Rattle.record.specs.declared.setting.Setting.{Setting}
-use Rattle.promises.specs.Made.{head-length, body-length, body-auth}
+use Rattle.promises.proofs.Made.{head-length, body-length, body-auth}
 use Rattle.promises.specs.Premises.{CanBuild}
-use Rattle.promises.specs.Trip.{build-passes, size-fits, head-session, head-low, head-field}
+use Rattle.promises.proofs.Trip.{build-passes, size-fits, head-session, head-low, head-field}
 
 -- out is the buffer after Build, was the buffer before
 pub record Laid (s : Setting) (n : ℕ) (app random was out : List ℕ) : Type 0 where

@@ -33,7 +33,7 @@ use Rattle.record.specs.declared.setting.Setting.{Setting}
 use Rattle.promises.specs.Run.{afterBy, answersBy}
 use Rattle.promises.specs.Plain.{oldOf, openPlain, plainLook, rememberFirst, plainChange, plainAnswers}
 use Rattle.promises.specs.SendRun.{Send, build, turnKey, failed, Sending, sending, usedBy, under, from}
-use Rattle.promises.specs.Demands.{builtOf, read-back, answers-as-plain, sends-in-order}
+use Rattle.promises.proofs.Demands.{builtOf, read-back, answers-as-plain, sends-in-order}
 use Rattle.promises.specs.Premises.{CanBuild, CanTake, sealedRecord}
 
 set : Setting

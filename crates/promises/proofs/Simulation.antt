@@ -24,9 +24,9 @@ use Rattle.record.specs.Setting.{zeroSetting, badSetting, openRows, ruleOf}
 use Rattle.record.specs.declared.setting.Setting.{Setting}
 use Rattle.promises.specs.Run.{afterBy, answersBy, answersOf}
 use Rattle.promises.specs.Plain.{PlainKey, Plain, newPlainKey, newPlain, openPlain, plainFace, oldOf, plainLook, remember, rememberFirst, plainChange, plainAnswers}
-use Rattle.promises.specs.Passed.{Allowed, marks, allowed}
-use Rattle.promises.specs.Good.{Good, good-whole, good-change, good-new, held-there}
-use Rattle.promises.specs.Alike.{FaceAlike, Alike, outcome-alike}
+use Rattle.promises.proofs.Passed.{Allowed, marks, allowed}
+use Rattle.promises.proofs.Good.{Good, good-whole, good-change, good-new, held-there}
+use Rattle.promises.proofs.Alike.{FaceAlike, Alike, outcome-alike}
 
 -- ---- a key with a window and a key with a list
 

@@ -31,8 +31,8 @@ use Rattle.record.specs.Write.{bodyLen, assocEndFor, formRows, roomRows, bodyOf
 use Rattle.record.specs.declared.setting.Setting.{Setting}
 use Rattle.promises.specs.Run.{afterBy, answersBy, answersOf, Item, handedBy}
 use Rattle.promises.specs.World.{Step, build, turn, seal, receive, Sent, sentOf, at, next, start, Each, handedIn, HonestCall}
-use Rattle.promises.specs.EndToEnd.{callsOf}
-use Rattle.promises.specs.Toy.{keyOf, keys-differ, eqList, weigh, tag, masked, toy, wire}
+use Rattle.promises.proofs.EndToEnd.{callsOf}
+use Rattle.promises.proofs.Toy.{keyOf, keys-differ, eqList, weigh, tag, masked, toy, wire}
 
 set : ℕ → Setting
 set m = record { mode = m; session = 0x11223344; limit = 1000 }

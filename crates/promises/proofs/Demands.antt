@@ -29,16 +29,16 @@ use Rattle.promises.specs.SendRun.{Send, used, under, from}
 use Rattle.promises.specs.World.{Step, start, Each, handedIn, HandsSealed, Cipher, HonestCall}
 use Rattle.promises.specs.Premises.{CanBuild, CanTake, sealedRecord, textOf}
 use Rattle.promises.specs.Barred.{Barred}
-use Rattle.promises.specs.Refusals as Refusals
-use Rattle.promises.specs.Marking as Marking
-use Rattle.promises.specs.Good as Good
-use Rattle.promises.specs.Simulation as Simulation
-use Rattle.promises.specs.Once as Once
-use Rattle.promises.specs.Sends as Sends
-use Rattle.promises.specs.EndToEnd as EndToEnd
-use Rattle.promises.specs.Replay as Replay
-use Rattle.promises.specs.Trip as Trip
-use Rattle.promises.specs.Laid as Laid
+use Rattle.promises.proofs.Refusals as Refusals
+use Rattle.promises.proofs.Marking as Marking
+use Rattle.promises.proofs.Good as Good
+use Rattle.promises.proofs.Simulation as Simulation
+use Rattle.promises.proofs.Once as Once
+use Rattle.promises.proofs.Sends as Sends
+use Rattle.promises.proofs.EndToEnd as EndToEnd
+use Rattle.promises.proofs.Replay as Replay
+use Rattle.promises.proofs.Trip as Trip
+use Rattle.promises.proofs.Laid as Laid
 
 -- ======== 1. Every entry point answers for every state value, record, length and key slot, and nothing is presumed checked. A refusal has its
 -- number, hands out no data, writes to no buffer and keeps the state, but for the one case in the table where an authentic record's number is

@@ -1,0 +1,17 @@
+pub mod Passed
+pub mod Good
+pub mod Alike
+pub mod Simulation
+pub mod Once
+pub mod Sends
+pub mod Refusals
+pub mod Made
+pub mod EndToEnd
+pub mod Replay
+pub mod Toy
+pub mod Example
+pub mod Trip
+pub mod Marking
+pub mod Laid
+pub mod Demands
+pub mod Wrong
