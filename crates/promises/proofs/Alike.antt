@@ -1,9 +1,9 @@
 -- Two views that agree wherever the table looks have one outcome. The Old row stands before the Repeat row: so it does not matter what a
 -- view says of numbers past the widthOf.
 -- Assumes nothing.
-use Prim.Native.Nat.{ℕ, _+_, _-_, _≤_, min}
+use Prim.Native.Nat.{ℕ, _+_, _-_, _≤_}
 use mathlib.Core.Path.{_≡_, refl, ap, _∙_}
-use mathlib.Core.Bool.{Bool, true, false, not, cond}
+use mathlib.Core.Bool.{Bool, true, false, cond}
 use mathlib.Core.List.{List, [], _∷_, _++_}
 use native.Mathlib.Omega.{arith}
 use lib.Dec.{ltb, eqb}
@@ -14,7 +14,7 @@ use Rattle.channel.specs.Call.{Call, offer, settle, gaps, changeKey, dropOld, c
 use Rattle.channel.specs.Rules.{stateRows, slotRows, placeRowsAt, offerRows, cipherRows, markingRows, rows, granted, outcome}
 use Rattle.channel.specs.View.{Face, View, noKey}
 use Rattle.numbers.specs.Contract.{widthOf}
-use Rattle.numbers.specs.Number.{numberRows, count, gapCount}
+use Rattle.numbers.specs.Number.{numberRows, count}
 use Rattle.record.specs.Read.{recordRows, placeRows}
 use Rattle.record.specs.Setting.{ruleOf}
 use Rattle.record.specs.declared.setting.Setting.{Setting}

@@ -12,7 +12,7 @@ use Rattle.answers.specs.Refusal as Refusal
 use Rattle.channel.specs.Call.{Call, offer, settle, changeKey, Answer}
 use Rattle.channel.specs.Key.{isZeroKey}
 use Rattle.channel.specs.Receiver.{openReceiver, badReceiver, look, change, answerTo, stateAfter}
-use Rattle.channel.specs.Rules.{stateRows, slotRows, placeRowsAt, offerRows, cipherRows, markingRows, rows, granted, effectOf, refused, outcome}
+use Rattle.channel.specs.Rules.{stateRows, slotRows, offerRows, cipherRows, markingRows, rows, granted, effectOf, refused, outcome}
 use Rattle.channel.specs.Sender.{badSender, senderRows, buildRows, changeRows, buildOf, buildOut, changeSender}
 use Rattle.channel.specs.View.{noKey}
 use Rattle.numbers.specs.Contract.{widthOf, soundWindow, after, windowOf, seenBy, isEmpty}

@@ -1,12 +1,12 @@
 -- A good state, by the rules behind State one by one, and that no call returns a bad state from a good one.
 -- Assumes nothing.
-use Prim.Native.Nat.{ℕ, _≤_, _<_, min}
+use Prim.Native.Nat.{ℕ, _≤_, _<_}
 use mathlib.Core.Path.{_≡_, refl}
 use mathlib.Core.Logic.{_≢_}
 use mathlib.Core.Bool.{Bool, true, false, not, _&&_, _||_}
 use mathlib.Core.List.{List}
 use native.Mathlib.Omega.{arith}
-use lib.Dec.{ltb, eqb, leb·zero}
+use lib.Dec.{ltb, eqb}
 use borrow.Author.Tests.{ltb-false, eqb-false, eq-eqb, ne-eqb, not-false}
 use Rattle.answers.proofs.Tests.{or-neither, true-not-false}
 use Rattle.channel.specs.Call.{Call, Effect, stay, marking, turning, dropping}

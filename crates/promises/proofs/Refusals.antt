@@ -18,7 +18,7 @@ use Rattle.answers.specs.Refusal as Refusal
 use Rattle.answers.specs.Table.{Check, first}
 use Rattle.channel.specs.Call.{Call, offer, settle, gaps, changeKey, dropOld, Answer, only, Effect, stay, marking, Outcome}
 use Rattle.channel.specs.Receiver.{zeroReceiver, look, change, answerTo, stateAfter, openReceiver}
-use Rattle.channel.specs.Rules.{stateRows, slotRows, placeRowsAt, offerRows, rows, effectOf, outcome}
+use Rattle.channel.specs.Rules.{stateRows, slotRows, offerRows, rows, effectOf, outcome}
 use Rattle.channel.specs.Sender.{zeroSender, badSender, spent, turnTo, senderRows, buildRows, changeRows, openSender, buildOf, buildOut, changeSender, noBuild}
 use Rattle.channel.specs.View.{View}
 use Rattle.channel.specs.declared.receiver.Receiver.{Receiver}

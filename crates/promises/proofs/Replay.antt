@@ -6,14 +6,14 @@ use mathlib.Core.Logic.{_≢_, inl, inr}
 use mathlib.Core.Bool.{Bool, true, false}
 use mathlib.Core.List.{List, [], _∷_, _++_}
 use native.Mathlib.Omega.{arith}
-use lib.Dec.{T, leb, ltb, eqb}
+use lib.Dec.{leb, ltb, eqb}
 use lib.ListN.{length}
 use borrow.Author.Tests.{leb-true, le-leb, lt-leb, not-false}
 use Rattle.channel.proofs.Outcome.{code-is, effect-is}
 use Rattle.answers.specs.Refusal.{authentic}
 use Rattle.answers.proofs.Tests.{true-not-false, by-cases}
 use Rattle.answers.specs.Refusal as Refusal
-use Rattle.answers.proofs.Table.{numbered, first-past, first-stop, row-passed}
+use Rattle.answers.proofs.Table.{first-past, first-stop, row-passed}
 use Rattle.answers.specs.Table.{first}
 use Rattle.channel.specs.Call.{Call, offer, settle, dropOld, Effect, stay, marking, turning, dropping, Outcome}
 use Rattle.channel.specs.Receiver.{newReceiver, zeroReceiver, badReceiver, look, change, answerTo, stateAfter, openReceiver}

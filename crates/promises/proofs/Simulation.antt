@@ -7,15 +7,18 @@ use mathlib.Core.List.{List, [], _∷_, map}
 use native.Mathlib.Omega.{arith}
 use lib.Dec.{eqb}
 use lib.ListN.{length}
+use Rattle.channel.proofs.Outcome.{code-is, effect-is, refused-is, bad-first}
+use Rattle.channel.proofs.Zeros.{zeros-bad-receiver}
+use Rattle.record.proofs.Zeros.{zeros-bad}
 use Rattle.numbers.specs.Contract.{widthOf, seenBy}
-use Rattle.numbers.specs.Memory.{member, nextOf, Remembers}
+use Rattle.numbers.specs.Memory.{Remembers}
 use Rattle.numbers.proofs.Laws.{remembers-none, remembers-after}
 use Rattle.answers.proofs.Tests.{true-not-false}
 use Rattle.answers.specs.Refusal as Refusal
-use Rattle.channel.specs.Call.{Call, offer, settle, gaps, changeKey, dropOld, Answer, only, Effect, stay, marking, turning, dropping}
+use Rattle.channel.specs.Call.{Call, Answer, only, Effect, stay, marking, turning, dropping}
 use Rattle.channel.specs.Key.{newKey, remark}
-use Rattle.channel.specs.Receiver.{newReceiver, zeroReceiver, badReceiver, faceOf, look, change, openReceiver}
-use Rattle.channel.specs.Rules.{stateRows, slotRows, offerRows, rows, refused, outcome}
+use Rattle.channel.specs.Receiver.{newReceiver, zeroReceiver, faceOf, look, change, openReceiver}
+use Rattle.channel.specs.Rules.{outcome}
 use Rattle.channel.specs.View.{View}
 use Rattle.channel.specs.declared.key.Key.{Key}
 use Rattle.channel.specs.declared.receiver.Receiver.{Receiver}
@@ -158,35 +161,27 @@ related-new s iv h =
 
 -- ---- an Open that was refused: every call answers State
 
-pub bad-outcome : (v : View) (c : Call) → v .bad ≡ true → outcome v c ≡ record { answer = only 1; effect = stay }
-unfolding outcome rows offerRows slotRows stateRows refused Refusal.marks
-bad-outcome v (offer r slot) h = rw h
-bad-outcome v (settle r slot count number passed plain) h = rw h
-bad-outcome v (gaps slot) h = rw h
-bad-outcome v (changeKey iv) h = rw h
-bad-outcome v dropOld h = rw h
+pub bad-outcome : (v : View) (c : Call) → v .bad ≡ true → outcome v c ≡ record { answer = only Refusal.State; effect = stay }
+unfolding Refusal.authentic Refusal.marks
+bad-outcome v c h =
+    let k : outcome v c .answer .code ≡ Refusal.State = code-is v c ∙ bad-first v c h in
+    let a : outcome v c .answer ≡ only Refusal.State = refused-is v c (λ z. omega (arith, k)) ∙ ap only k in
+    let e : outcome v c .effect ≡ stay = effect-is v c ∙ rw k in
+    λ i. record { answer = a i; effect = e i }
 
-pub bad-answers : {S : Type 0} (looks : S → View) (changes : S → Effect → S) (s : S) → changes s stay ≡ s → looks s .bad ≡ true
-    → (cs : List Call) → answersBy looks outcome changes s cs ≡ map (λ c. only 1) cs
+bad-answers : {S : Type 0} (looks : S → View) (changes : S → Effect → S) (s : S) → changes s stay ≡ s → looks s .bad ≡ true
+    → (cs : List Call) → answersBy looks outcome changes s cs ≡ map (λ c. only Refusal.State) cs
 unfolding answersBy afterBy
 bad-answers looks changes s e h [] = refl
 bad-answers looks changes s e h (c ∷ cs) =
     let o = bad-outcome (looks s) c h in
     let n : changes s (outcome (looks s) c .effect) ≡ s = rw o e in
-    rw (n, o) (ap (λ (l : List Answer). only 1 ∷ l) (bad-answers looks changes s e h cs))
-
-pub zero-setting : badSetting zeroSetting ≡ true
-unfolding badSetting
-zero-setting = refl
-
-pub zero-bad : badReceiver zeroReceiver ≡ true
-unfolding badReceiver
-zero-bad = rw zero-setting
+    rw (n, o) (ap (λ (l : List Answer). only Refusal.State ∷ l) (bad-answers looks changes s e h cs))
 
 pub as-plain : (s : Setting) (iv : List ℕ) (cs : List Call) → answersOf (openReceiver s iv .next) cs ≡ plainAnswers (openPlain s iv) cs
 unfolding openRows change plainChange look plainLook
 as-plain s iv cs = go (badSetting s) refl
   where
     go : (b : Bool) → badSetting s ≡ b → answersOf (openReceiver s iv .next) cs ≡ plainAnswers (openPlain s iv) cs
-    go true e = rw e (bad-answers look change zeroReceiver refl zero-bad cs ∙ sym (bad-answers plainLook plainChange (newPlain zeroSetting zeros12) refl zero-setting cs))
+    go true e = rw e (bad-answers look change zeroReceiver refl zeros-bad-receiver cs ∙ sym (bad-answers plainLook plainChange (newPlain zeroSetting zeros12) refl zeros-bad cs))
     go false e = rw e (simulate (newReceiver s iv) (newPlain s iv) cs (related-new s iv e))

@@ -12,7 +12,7 @@ use Rattle.answers.specs.Refusal as Refusal
 use Rattle.channel.specs.Call.{Call, offer, settle, gaps, changeKey, Answer, only, Effect, stay, marking, turning, dropping, Outcome}
 use Rattle.channel.specs.Key.{isZeroKey}
 use Rattle.channel.specs.Receiver.{newReceiver, badReceiver, look, change, answerTo, openReceiver}
-use Rattle.channel.specs.Rules.{stateRows, slotRows, placeRowsAt, offerRows, cipherRows, markingRows, rows, granted, effectOf, refused, outcome}
+use Rattle.channel.specs.Rules.{stateRows, slotRows, offerRows, cipherRows, markingRows, rows, granted, effectOf, refused, outcome}
 use Rattle.channel.specs.Sender.{newSender, badSender, senderRows, buildRows, changeRows, buildOf, buildOut, changeSender, openSender}
 use Rattle.channel.specs.View.{View, noKey}
 use Rattle.channel.specs.declared.receiver.Receiver.{Receiver}

@@ -2,7 +2,7 @@
 -- receiver's look, the table's outcome and the change as parameters: so a wrong one can be run, too.
 -- Assumes nothing.
 use Prim.Native.Nat.{ℕ}
-use mathlib.Core.Bool.{Bool, cond, _||_}
+use mathlib.Core.Bool.{cond}
 use mathlib.Core.List.{List, [], _∷_, _++_}
 use lib.Dec.{eqb}
 use Rattle.answers.specs.Refusal.{authentic}
