@@ -5,3 +5,4 @@ pub mod SendRun
 pub mod World
 pub mod Premises
 pub mod Barred
+pub mod Marks
