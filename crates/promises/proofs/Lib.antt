@@ -18,4 +18,7 @@ pub mod Example
 pub mod Trip
 pub mod Laid
 pub mod Demands
-pub mod Wrong
+pub mod Computing
+pub mod WrongReceivers
+pub mod WrongSenders
+pub mod WrongBuilds

@@ -6,3 +6,7 @@ pub mod World
 pub mod Premises
 pub mod Barred
 pub mod Marks
+pub mod Ways
+pub mod WrongReceivers
+pub mod WrongSenders
+pub mod WrongBuilds

@@ -1,0 +1,43 @@
+-- What a closed run of a receiver, a sender or both computes through: `unfolding computing` opens all of it.
+-- Assumes nothing.
+use Rattle.answers.specs.Refusal as Refusal
+use Rattle.channel.specs.Key.{isZeroKey}
+use Rattle.channel.specs.Receiver.{badReceiver, look, change}
+use Rattle.channel.specs.Rules.{stateRows, slotRows, offerRows, cipherRows, markingRows, rows, granted, effectOf, refused, outcome}
+use Rattle.channel.specs.Sender.{badSender, senderRows, buildRows, changeRows, buildOf, buildOut, changeSender}
+use Rattle.channel.specs.View.{noKey}
+use Rattle.numbers.specs.Contract.{widthOf, soundWindow, after, windowOf, seenBy, isEmpty}
+use Rattle.numbers.specs.Memory.{member, nextOf}
+use Rattle.numbers.specs.Number.{whole, nearest, count, gapCount, numberRows}
+use Rattle.numbers.specs.Window.{marked, markNext, markWord, sound}
+use Rattle.numbers.specs.Word.{bit, setBit, wordOf, marksOf}
+use Rattle.octets.specs.Fields.{field, blank}
+use Rattle.record.specs.Header.{sessionOf, partialOf, lengthOf, numberOf, headOf}
+use Rattle.record.specs.Nonce.{nonceOf, spread}
+use Rattle.record.specs.Read.{recordRows, placeRows}
+use Rattle.record.specs.Setting.{authOnly, badSetting, openRows, windowWidth}
+use Rattle.record.specs.Shape.{headLen, macLen, innerLen, mostLength, least, totalOf, startOf, textEnd, assocEnd, plainLen, dataPlace, dataLen, innerBad}
+use Rattle.record.specs.Write.{bodyLen, assocEndFor, formRows, roomRows, bodyOf, frontOf}
+use Rattle.promises.specs.Run.{afterBy, answersBy, markedBy, allMarked}
+use Rattle.promises.specs.Plain.{oldOf, plainLook, rememberFirst, plainChange}
+use Rattle.promises.specs.SendRun.{sending, usedBy, under, from}
+
+-- numbers and windows
+unfoldable pub numbersOpen : Unit {0}
+unfolding widthOf soundWindow after windowOf seenBy isEmpty member nextOf whole nearest count gapCount numberRows marked markNext markWord sound bit setBit wordOf marksOf
+numbersOpen = tt
+
+-- records
+unfoldable pub recordsOpen : Unit {0}
+unfolding field blank sessionOf partialOf lengthOf numberOf headOf nonceOf spread recordRows placeRows authOnly badSetting openRows windowWidth headLen macLen innerLen mostLength least totalOf startOf textEnd assocEnd plainLen dataPlace dataLen innerBad bodyLen assocEndFor formRows roomRows bodyOf frontOf
+recordsOpen = tt
+
+-- the two ends
+unfoldable pub endsOpen : Unit {0}
+unfolding Refusal.marks Refusal.authentic isZeroKey badReceiver look change stateRows slotRows offerRows cipherRows markingRows rows granted effectOf refused outcome noKey badSender senderRows buildRows changeRows buildOf buildOut changeSender
+endsOpen = tt
+
+-- and runs of them
+unfoldable pub computing : Unit {0}
+unfolding numbersOpen recordsOpen endsOpen afterBy answersBy markedBy allMarked oldOf plainLook rememberFirst plainChange sending usedBy under from
+computing = tt

@@ -1,0 +1,150 @@
+-- Wrong receivers, each with a run on which it answers what the plain receiver does not, and those of them that mark a number twice.
+-- Assumes nothing.
+use Prim.Native.Nat.{ℕ, _+_}
+use mathlib.Core.Bool.{true, false, cond}
+use mathlib.Core.List.{List, [], _∷_}
+use lib.Dec.{leb, eqb}
+use lib.ListN.{replicate}
+use Rattle.answers.specs.Refusal as Refusal
+use Rattle.channel.specs.Call.{Call, offer, settle, gaps, changeKey, Answer, only, Effect, stay, marking, turning, dropping, Outcome}
+use Rattle.channel.specs.Receiver.{look, change}
+use Rattle.channel.specs.Rules.{granted, effectOf, outcome}
+use Rattle.channel.specs.View.{Face, View}
+use Rattle.channel.specs.declared.receiver.Receiver.{Receiver}
+use Rattle.numbers.specs.Contract.{windowOf}
+use Rattle.record.specs.declared.setting.Setting.{Setting}
+use Rattle.promises.specs.Ways.{Receives}
+
+-- ---- the runs: from the open of this setting with this IV
+
+abbrev pub set : Setting
+set = record { mode = 0; session = 0x11223344; limit = 1000 }
+
+abbrev pub iv : List ℕ
+iv = 0 ∷ 1 ∷ 2 ∷ 3 ∷ 4 ∷ 5 ∷ 6 ∷ 7 ∷ 8 ∷ 9 ∷ 10 ∷ 11 ∷ []
+
+-- a record with the number n and no data, and its Settle in a slot, under a key count
+abbrev pub rec : ℕ → List ℕ
+rec n = 0x44 ∷ 0x33 ∷ 0x22 ∷ 0x11 ∷ n ∷ 0 ∷ 16 ∷ 0 ∷ replicate 16 0
+
+abbrev pub taking : ℕ → ℕ → ℕ → Call
+taking slot count n = settle (rec n) slot count n true []
+
+-- ---- wrong tables
+
+abbrev pub byTable : (View → Call → Outcome) → Receives
+byTable decides = record { looks = look; decides = decides; changes = change }
+
+-- it refuses everything
+unfoldable pub refusesAll : View → Call → Outcome
+refusesAll v c = record { answer = only Refusal.Mac; effect = stay }
+
+-- what the table says, but for the number and the gap count
+abbrev pub says : ℕ → ℕ → Outcome → Outcome
+says number missing o =
+    let a = o .answer in
+    record {
+      answer = record {
+        code = a .code;
+        count = a .count;
+        number = number;
+        nonce = a .nonce;
+        assoc = a .assoc;
+        text = a .text;
+        place = a .place;
+        length = a .length;
+        gaps = missing;
+      };
+      effect = o .effect;
+    }
+
+-- it answers number 0 always
+unfoldable pub numberZero : View → Call → Outcome
+numberZero v c = says 0 (outcome v c .answer .gaps) (outcome v c)
+
+-- its gap count is made up
+unfoldable pub madeUpGaps : View → Call → Outcome
+madeUpGaps v c = says (outcome v c .answer .number) 0 (outcome v c)
+
+-- it has no age rule
+unfoldable pub ageless : View → Call → Outcome
+ageless v c = cond (eqb (outcome v c .answer .code) Refusal.Old) (record { answer = granted v c; effect = effectOf c }) (outcome v c)
+
+-- ---- wrong changes
+
+abbrev pub byChange : (Receiver → Effect → Receiver) → Receives
+byChange changes = record { looks = look; decides = outcome; changes = changes }
+
+-- a Settle that forgets to mark
+unfoldable pub forgetsToMark : Receiver → Effect → Receiver
+forgetsToMark r (marking slot n) = r
+forgetsToMark r stay = r
+forgetsToMark r (turning iv) = change r (turning iv)
+forgetsToMark r dropping = change r dropping
+
+-- one that marks the first number only
+unfoldable pub marksFirst : Receiver → Effect → Receiver
+marksFirst r (marking slot n) = cond (eqb (r .current .window .next) 0) (change r (marking slot n)) r
+marksFirst r stay = r
+marksFirst r (turning iv) = change r (turning iv)
+marksFirst r dropping = change r dropping
+
+-- one window for both keys: a new key goes on with it
+unfoldable pub oneWindow : Receiver → Effect → Receiver
+oneWindow r (turning iv) =
+    record { setting = r .setting; count = r .count + 1; current = record { iv = iv; window = r .current .window }; held = true; old = r .current }
+oneWindow r stay = r
+oneWindow r (marking slot n) = change r (marking slot n)
+oneWindow r dropping = change r dropping
+
+-- the window is cleared when it moves
+unfoldable pub clearsWindow : Receiver → Effect → Receiver
+clearsWindow r (marking slot n) =
+    cond (leb (r .current .window .next) n)
+    (record { setting = r .setting; count = r .count; current = record { iv = r .current .iv; window = windowOf (n + 1) 1 }; held = r .held; old = r .old })
+    (change r (marking slot n))
+clearsWindow r stay = r
+clearsWindow r (turning iv) = change r (turning iv)
+clearsWindow r dropping = change r dropping
+
+-- ---- wrong looks
+
+abbrev pub byLook : (Receiver → View) → Receives
+byLook looks = record { looks = looks; decides = outcome; changes = change }
+
+-- the view, but for the faces of the keys
+abbrev pub faced : View → Face → Face → View
+faced v current old = record { setting = v .setting; bad = v .bad; count = v .count; current = current; held = v .held; old = old }
+
+-- it sees the current key in both slots
+unfoldable pub seesOneKey : Receiver → View
+seesOneKey r = faced (look r) (look r .current) (look r .current)
+
+-- it sees no marks
+unfoldable pub seesNoMarks : Receiver → View
+seesNoMarks r = faced (look r) (unmarked (look r .current)) (unmarked (look r .old))
+  where
+    unmarked : Face → Face
+    unmarked f = record { iv = f .iv; next = f .next; seen = λ n. false }
+
+-- ---- each with its run
+
+-- those that mark a number twice, each with a run on which it does
+abbrev pub markTwice : List (Receives × List Call)
+markTwice =
+    (byTable ageless, taking 0 0 100 ∷ taking 0 0 30 ∷ taking 0 0 30 ∷ [])
+    ∷ (byChange forgetsToMark, taking 0 0 0 ∷ taking 0 0 0 ∷ [])
+    ∷ (byChange marksFirst, taking 0 0 0 ∷ taking 0 0 1 ∷ taking 0 0 1 ∷ [])
+    ∷ (byChange clearsWindow, taking 0 0 0 ∷ taking 0 0 1 ∷ taking 0 0 0 ∷ [])
+    ∷ (byLook seesOneKey, taking 0 0 0 ∷ changeKey iv ∷ taking 1 0 0 ∷ [])
+    ∷ (byLook seesNoMarks, taking 0 0 0 ∷ taking 0 0 0 ∷ [])
+    ∷ []
+
+-- and all of them, each with a run on which it answers what the plain receiver does not
+abbrev pub wrongReceivers : List (Receives × List Call)
+wrongReceivers =
+    (byTable refusesAll, offer (rec 0) 0 ∷ [])
+    ∷ (byTable numberZero, taking 0 0 0 ∷ offer (rec 1) 0 ∷ [])
+    ∷ (byTable madeUpGaps, taking 0 0 1 ∷ gaps 0 ∷ [])
+    ∷ (byChange oneWindow, taking 0 0 0 ∷ changeKey iv ∷ taking 0 1 0 ∷ [])
+    ∷ markTwice
