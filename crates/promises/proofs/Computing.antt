@@ -1,6 +1,6 @@
 -- What a closed run of a receiver, a sender or both computes through: `unfolding computing` opens all of it.
 -- Assumes nothing.
-use Rattle.answers.specs.Refusal as Refusal
+use Rattle.answers.specs.Refusal.{marks, authentic}
 use Rattle.channel.specs.Key.{isZeroKey}
 use Rattle.channel.specs.Receiver.{badReceiver, look, change}
 use Rattle.channel.specs.Rules.{stateRows, slotRows, offerRows, cipherRows, markingRows, rows, granted, effectOf, refused, outcome}
@@ -22,22 +22,38 @@ use Rattle.promises.specs.Run.{afterBy, answersBy, markedBy, allMarked}
 use Rattle.promises.specs.Plain.{oldOf, plainLook, rememberFirst, plainChange}
 use Rattle.promises.specs.SendRun.{sending, usedBy, under, from}
 
--- numbers and windows
+-- numbers, and windows
 unfoldable pub numbersOpen : Unit {0}
-unfolding widthOf soundWindow after windowOf seenBy isEmpty member nextOf whole nearest count gapCount numberRows marked markNext markWord sound bit setBit wordOf marksOf
+unfolding whole nearest count gapCount numberRows member nextOf bit setBit wordOf marksOf
 numbersOpen = tt
 
--- records
-unfoldable pub recordsOpen : Unit {0}
-unfolding field blank sessionOf partialOf lengthOf numberOf headOf nonceOf spread recordRows placeRows authOnly badSetting openRows windowWidth headLen macLen innerLen mostLength least totalOf startOf textEnd assocEnd plainLen dataPlace dataLen innerBad bodyLen assocEndFor formRows roomRows bodyOf frontOf
-recordsOpen = tt
+unfoldable pub windowsOpen : Unit {0}
+unfolding widthOf soundWindow after windowOf seenBy isEmpty marked markNext markWord sound
+windowsOpen = tt
 
--- the two ends
-unfoldable pub endsOpen : Unit {0}
-unfolding Refusal.marks Refusal.authentic isZeroKey badReceiver look change stateRows slotRows offerRows cipherRows markingRows rows granted effectOf refused outcome noKey badSender senderRows buildRows changeRows buildOf buildOut changeSender
-endsOpen = tt
+-- records: read, and written
+unfoldable pub readingOpen : Unit {0}
+unfolding field blank sessionOf partialOf lengthOf numberOf recordRows placeRows authOnly badSetting openRows windowWidth headLen macLen innerLen least totalOf
+readingOpen = tt
+
+unfoldable pub partsOpen : Unit {0}
+unfolding startOf textEnd assocEnd plainLen dataPlace dataLen innerBad nonceOf spread headOf mostLength bodyLen assocEndFor formRows roomRows bodyOf frontOf
+partsOpen = tt
+
+-- the receiver, and the sender
+unfoldable pub receiverOpen : Unit {0}
+unfolding isZeroKey badReceiver look change noKey stateRows slotRows offerRows cipherRows markingRows rows granted effectOf refused outcome marks authentic
+receiverOpen = tt
+
+unfoldable pub senderOpen : Unit {0}
+unfolding badSender senderRows buildRows changeRows buildOf buildOut changeSender
+senderOpen = tt
 
 -- and runs of them
+unfoldable pub runsOpen : Unit {0}
+unfolding afterBy answersBy markedBy allMarked oldOf plainLook rememberFirst plainChange sending usedBy under from
+runsOpen = tt
+
 unfoldable pub computing : Unit {0}
-unfolding numbersOpen recordsOpen endsOpen afterBy answersBy markedBy allMarked oldOf plainLook rememberFirst plainChange sending usedBy under from
+unfolding numbersOpen windowsOpen readingOpen partsOpen receiverOpen senderOpen runsOpen
 computing = tt

@@ -1,12 +1,12 @@
 -- A good state, by the rules behind State one by one, and that no call returns a bad state from a good one.
 -- Assumes nothing.
-use Prim.Native.Nat.{ℕ, _≤_, _<_, min}
+use Prim.Native.Nat.{ℕ, _≤_, _<_}
 use mathlib.Core.Path.{_≡_, refl}
 use mathlib.Core.Logic.{_≢_}
 use mathlib.Core.Bool.{Bool, true, false, not, _&&_, _||_}
 use mathlib.Core.List.{List}
 use native.Mathlib.Omega.{arith}
-use lib.Dec.{ltb, eqb, leb·zero}
+use lib.Dec.{ltb, eqb}
 use borrow.Author.Tests.{ltb-false, eqb-false, eq-eqb, ne-eqb, not-false}
 use Rattle.answers.proofs.Tests.{or-neither, true-not-false}
 use Rattle.channel.specs.Call.{Call, Effect, stay, marking, turning, dropping}
@@ -15,8 +15,7 @@ use Rattle.channel.specs.Receiver.{newReceiver, badReceiver, openReceiver, look
 use Rattle.channel.specs.View.{View, noKey}
 use Rattle.channel.specs.declared.receiver.Receiver.{Receiver}
 use Rattle.numbers.proofs.Laws.{empty-is, sound-none, sound-after}
-use Rattle.numbers.specs.Contract.{emptyWindow, soundWindow, after}
-use Rattle.numbers.specs.declared.window.Window.{Window}
+use Rattle.numbers.specs.Contract.{soundWindow}
 use Rattle.octets.specs.Fields.{blank}
 use Rattle.record.specs.Setting.{badSetting, openRows, ruleOf}
 use Rattle.record.specs.declared.setting.Setting.{Setting}
@@ -24,6 +23,7 @@ use Rattle.promises.proofs.Passed.{Allowed, marks, allowed}
 
 -- ---- the rules
 
+-- each rule behind State, by name
 pub record Good (r : Receiver) : Type 0 where
   pub accepted : badSetting (r .setting) ≡ false
   pub sound-current : soundWindow (ruleOf (r .setting)) (r .current .window) ≡ true
@@ -62,17 +62,10 @@ good-parts r e =
       counted = λ h. let n : r .count ≢ 0 = eqb-false _ _ (d .1 h) in omega arith;
     }
 
--- ---- a new key, and a marked one
-
-pub new-sound : (s : Setting) → soundWindow (ruleOf s) emptyWindow ≡ true
-new-sound s = sound-none (ruleOf s)
-
-pub new-blank : isZeroKey zeroKey ≡ true
+-- the zeros of a key are zero
+new-blank : isZeroKey zeroKey ≡ true
 unfolding isZeroKey blank
 new-blank = empty-is
-
-pub mark-good : (s : Setting) (w : Window) (n : ℕ) → soundWindow (ruleOf s) w ≡ true → soundWindow (ruleOf s) (after (ruleOf s) w n) ≡ true
-mark-good s w n h = sound-after (ruleOf s) w h n
 
 -- the old slot has a key only where it is held
 pub held-there : (v : View) (slot : ℕ) → noKey v slot ≡ false → eqb slot 0 ≡ false → v .held ≡ true
@@ -92,7 +85,7 @@ mark-change r slot n true e G h =
     rw e
     (record {
       accepted = G .accepted;
-      sound-current = mark-good (r .setting) (r .current .window) n (G .sound-current);
+      sound-current = sound-after (ruleOf (r .setting)) (r .current .window) (G .sound-current) n;
       sound-old = G .sound-old;
       blanks = G .blanks;
       counted = G .counted;
@@ -102,7 +95,7 @@ mark-change r slot n false e G h =
     (record {
       accepted = G .accepted;
       sound-current = G .sound-current;
-      sound-old = mark-good (r .setting) (r .old .window) n (G .sound-old);
+      sound-old = sound-after (ruleOf (r .setting)) (r .old .window) (G .sound-old) n;
       blanks = λ f. absurd (true-not-false (h refl) f);
       counted = G .counted;
     })
@@ -114,7 +107,7 @@ good-change r (marking slot n) G (marks key place) = mark-change r slot n (eqb s
 good-change r (turning iv) G a =
     record {
       accepted = G .accepted;
-      sound-current = new-sound (r .setting);
+      sound-current = sound-none (ruleOf (r .setting));
       sound-old = G .sound-current;
       blanks = λ f. absurd (true-not-false refl f);
       counted = λ f. omega arith;
@@ -123,7 +116,7 @@ good-change r dropping G a =
     record {
       accepted = G .accepted;
       sound-current = G .sound-current;
-      sound-old = new-sound (r .setting);
+      sound-old = sound-none (ruleOf (r .setting));
       blanks = λ f. new-blank;
       counted = λ f. absurd (true-not-false f refl);
     }
@@ -136,8 +129,8 @@ pub good-new : (s : Setting) (iv : List ℕ) → badSetting s ≡ false → Good
 good-new s iv h =
     record {
       accepted = h;
-      sound-current = new-sound s;
-      sound-old = new-sound s;
+      sound-current = sound-none (ruleOf s);
+      sound-old = sound-none (ruleOf s);
       blanks = λ f. new-blank;
       counted = λ f. absurd (true-not-false f refl);
     }

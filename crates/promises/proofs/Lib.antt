@@ -19,6 +19,7 @@ pub mod Trip
 pub mod Laid
 pub mod Demands
 pub mod Computing
+pub mod Failing
 pub mod WrongReceivers
 pub mod WrongSenders
 pub mod WrongBuilds

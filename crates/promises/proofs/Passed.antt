@@ -18,6 +18,7 @@ use Rattle.channel.specs.Rules.{stateRows, slotRows, placeRowsAt, offerRows, ci
 use Rattle.channel.specs.View.{View, noKey, keyAt, countAt, numberAt}
 use Rattle.numbers.specs.Contract.{widthOf}
 use Rattle.numbers.specs.Number.{numberRows}
+use Rattle.record.proofs.Sizes.{passed-session, passed-total, passed-least}
 use Rattle.record.specs.Header.{sessionOf, lengthOf}
 use Rattle.record.specs.Read.{recordRows, placeRows}
 use Rattle.record.specs.Setting.{ruleOf}
@@ -46,14 +47,13 @@ pub record Frame (s : Setting) (r : List ℕ) : Type 0 where
   pub big : least s ≤ lengthOf s r
 
 pub frame-passed : (s : Setting) (r : List ℕ) → first (recordRows s r) ≡ 0 → Frame s r
-unfolding recordRows
+unfolding recordRows totalOf
 frame-passed s r e =
-    let p : (k : ℕ) → testOf k (recordRows s r) ≡ false = λ k. row-passed k (recordRows s r) tt e in
     record {
-      long = ltb-false _ _ (p Refusal.Short);
-      session = same _ _ (p Refusal.Session);
-      exact = same _ _ (p Refusal.Length);
-      big = ltb-false _ _ (p Refusal.Small);
+      long = ltb-false _ _ (row-passed Refusal.Short (recordRows s r) tt e);
+      session = passed-session s r e;
+      exact = passed-total s r e;
+      big = passed-least s r e;
     }
 
 pub record Place (w l e : ℕ) (seen : ℕ → Bool) (n : ℕ) : Type 0 where

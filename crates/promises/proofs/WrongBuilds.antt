@@ -1,15 +1,15 @@
 -- Demand 2 bites: it fails of each wrong Build, and of wrong tables, on a closed case, by computation; it holds of the right ones.
 -- Assumes nothing.
 use Prim.Native.Nat.{ℕ, _-_, _^_, _<_}
-use mathlib.Core.Path.{_≡_, refl, sym, ap, _∙_, subst}
+use mathlib.Core.Path.{_≡_, refl, sym, ap, _∙_}
 use mathlib.Core.Logic.{inl}
-use mathlib.Core.Bool.{Bool, true, false, not, _&&_}
+use mathlib.Core.Bool.{Bool, true, cond, _&&_}
 use mathlib.Core.List.{List, [], _∷_, map}
 use native.Mathlib.Omega.{arith}
-use lib.Dec.{T, eqb}
+use lib.Dec.{eqb}
 use lib.ListN.{length, replicate}
 use borrow.Author.Tests.{eq-eqb, eqb-true}
-use Rattle.answers.proofs.Tests.{both-true}
+use Rattle.answers.proofs.Tests.{by-cases}
 use Rattle.channel.specs.Call.{Call, Answer, Outcome}
 use Rattle.channel.specs.Receiver.{newReceiver, answerTo}
 use Rattle.channel.specs.Rules.{outcome}
@@ -21,6 +21,7 @@ use Rattle.promises.specs.Ways.{Fails, Builds, rightBuilds, offeredBy, R
 use Rattle.promises.specs.WrongReceivers.{set, iv, refusesAll, numberZero}
 use Rattle.promises.specs.WrongBuilds.{writesNothing, builtAsOther, wrongBuilds}
 use Rattle.promises.proofs.Computing.{computing}
+use Rattle.promises.proofs.Failing.{fails}
 use Rattle.promises.proofs.Demands.{read-back}
 
 -- a sender before number 5, a buffer and a MAC
@@ -69,35 +70,22 @@ misread : map reading wrongBuilds ≡ (0, 5, 0, 5) ∷ (0, 0, 5, 7) ∷ (0, 13, 
 unfolding computing five reading writesNothing builtAsOther refusesAll numberZero
 misread = refl
 
--- Offer answers 0, and the number that Build answered
+-- where the text has no bytes, Offer answers 0 and the number that Build answered
 abbrev isRead : ℕ × ℕ × ℕ × ℕ → Bool
-isRead p = eqb (p .1) 0 && eqb (p .2) (p .3)
+isRead p = cond (eqb 0 (p .0)) (eqb (p .1) 0 && eqb (p .2) (p .3)) true
 
--- a text of no bytes, and it is not read
-abbrev noneRead : List (ℕ × ℕ × ℕ × ℕ) → Bool
-noneRead [] = true
-noneRead (p ∷ ps) = eqb 0 (p .0) && (not (isRead p) && noneRead ps)
-
-T-true : (b : Bool) → T b → b ≡ true
-T-true true h = refl
-T-true false h = absurd h
-
-reads-fails : (xs : List ((View → Call → Outcome) × Builds)) → T (noneRead (map reading xs)) → Fails (λ x. Reads (x .0) (x .1)) xs
+reads-read : (x : (View → Call → Outcome) × Builds) → Reads (x .0) (x .1) → isRead (reading x) ≡ true
 unfolding reading
-reads-fails [] h = tt
-reads-fails (x ∷ xs) h =
-    let n = both-true (eqb 0 (reading x .0)) _ h in
-    let m = both-true (not (isRead (reading x))) (noneRead (map reading xs)) (n .1) in (
-      λ t.
-          let e = eqb-true 0 (reading x .0) (T-true _ (n .0)) in
-          let r = t five (1 ∷ []) [] room [] mac (newReceiver set iv) 0 can-build can-take session-fits e mac-fits in
-          rw (eq-eqb (reading x .1) 0 (r .0), eq-eqb (reading x .2) (reading x .3) (r .1)) at (m .0),
-      reads-fails xs (m .1),
-    )
+reads-read x t =
+    by-cases (λ (b : Bool). b ≡ true) (eqb 0 (reading x .0)) _ _
+    (λ e.
+    let r = t five (1 ∷ []) [] room [] mac (newReceiver set iv) 0 can-build can-take session-fits (eqb-true 0 (reading x .0) e) mac-fits in
+    rw (eq-eqb (reading x .1) 0 (r .0), eq-eqb (reading x .2) (reading x .3) (r .1)))
+    (λ e. refl)
 
 -- demand 2 fails of each wrong Build, and of a table that refuses everything or answers number 0
 pub wrong-builds-fail : Fails (λ x. Reads (x .0) (x .1)) wrongBuilds
-wrong-builds-fail = reads-fails wrongBuilds (subst (λ (l : List (ℕ × ℕ × ℕ × ℕ)). T (noneRead l)) (sym misread) tt)
+wrong-builds-fail = fails _ reading isRead reads-read wrongBuilds _ misread tt
 
 -- and holds of the right ones
 pub right-builds : Reads outcome rightBuilds

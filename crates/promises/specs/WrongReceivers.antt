@@ -6,7 +6,7 @@ use mathlib.Core.List.{List, [], _∷_}
 use lib.Dec.{leb, eqb}
 use lib.ListN.{replicate}
 use Rattle.answers.specs.Refusal as Refusal
-use Rattle.channel.specs.Call.{Call, offer, settle, gaps, changeKey, Answer, only, Effect, stay, marking, turning, dropping, Outcome}
+use Rattle.channel.specs.Call.{Call, offer, settle, gaps, changeKey, only, Effect, stay, marking, turning, dropping, Outcome}
 use Rattle.channel.specs.Receiver.{look, change}
 use Rattle.channel.specs.Rules.{granted, effectOf, outcome}
 use Rattle.channel.specs.View.{Face, View}
