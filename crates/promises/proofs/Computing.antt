@@ -22,38 +22,42 @@ use Rattle.promises.specs.Run.{afterBy, answersBy, markedBy, allMarked}
 use Rattle.promises.specs.Plain.{oldOf, plainLook, rememberFirst, plainChange}
 use Rattle.promises.specs.SendRun.{sending, usedBy, under, from}
 
--- numbers, and windows
+-- numbers
 unfoldable pub numbersOpen : Unit {0}
 unfolding whole nearest count gapCount numberRows member nextOf bit setBit wordOf marksOf
 numbersOpen = tt
 
+-- windows
 unfoldable pub windowsOpen : Unit {0}
 unfolding widthOf soundWindow after windowOf seenBy isEmpty marked markNext markWord sound
 windowsOpen = tt
 
--- records: read, and written
+-- settings, and the checks of a record
 unfoldable pub readingOpen : Unit {0}
 unfolding field blank sessionOf partialOf lengthOf numberOf recordRows placeRows authOnly badSetting openRows windowWidth headLen macLen innerLen least totalOf
 readingOpen = tt
 
+-- the parts of a record, read and written
 unfoldable pub partsOpen : Unit {0}
 unfolding startOf textEnd assocEnd plainLen dataPlace dataLen innerBad nonceOf spread headOf mostLength bodyLen assocEndFor formRows roomRows bodyOf frontOf
 partsOpen = tt
 
--- the receiver, and the sender
+-- the receiver
 unfoldable pub receiverOpen : Unit {0}
 unfolding isZeroKey badReceiver look change noKey stateRows slotRows offerRows cipherRows markingRows rows granted effectOf refused outcome marks authentic
 receiverOpen = tt
 
+-- the sender
 unfoldable pub senderOpen : Unit {0}
 unfolding badSender senderRows buildRows changeRows buildOf buildOut changeSender
 senderOpen = tt
 
--- and runs of them
+-- runs
 unfoldable pub runsOpen : Unit {0}
 unfolding afterBy answersBy markedBy allMarked oldOf plainLook rememberFirst plainChange sending usedBy under from
 runsOpen = tt
 
+-- all of these
 unfoldable pub computing : Unit {0}
 unfolding numbersOpen windowsOpen readingOpen partsOpen receiverOpen senderOpen runsOpen
 computing = tt

@@ -40,6 +40,7 @@ good-old true b c e = (λ h. absurd (true-not-false refl h), λ h. e)
 good-old false true c e = (λ h. refl, λ h. absurd (true-not-false h refl))
 good-old false false c e = absurd (true-not-false refl e)
 
+-- a state that keeps each is not State
 pub good-whole : (r : Receiver) → Good r → badReceiver r ≡ false
 unfolding badReceiver
 good-whole r G =
@@ -47,6 +48,7 @@ good-whole r G =
     (old-good (r .held) (isZeroKey (r .old)) (eqb (r .count) 0) (G .blanks)
     (λ h. let c : 0 < r .count = G .counted h in ne-eqb (r .count) 0 (omega arith)))
 
+-- and the other way round
 pub good-parts : (r : Receiver) → badReceiver r ≡ false → Good r
 unfolding badReceiver
 good-parts r e =
@@ -100,6 +102,7 @@ mark-change r slot n false e G h =
       counted = G .counted;
     })
 
+-- what a call may do keeps a good state good
 pub good-change : (r : Receiver) (e : Effect) → Good r → Allowed (look r) e → Good (change r e)
 unfolding change look
 good-change r stay G a = G
@@ -121,10 +124,12 @@ good-change r dropping G a =
       counted = λ f. absurd (true-not-false f refl);
     }
 
+-- no call returns a bad state from a good one
 pub good-kept : (r : Receiver) (c : Call) → badReceiver r ≡ false → badReceiver (stateAfter r c) ≡ false
 unfolding stateAfter
 good-kept r c e = good-whole _ (good-change r _ (good-parts r e) (allowed (look r) c))
 
+-- a new receiver is good
 pub good-new : (s : Setting) (iv : List ℕ) → badSetting s ≡ false → Good (newReceiver s iv)
 good-new s iv h =
     record {
@@ -135,6 +140,7 @@ good-new s iv h =
       counted = λ f. absurd (true-not-false f refl);
     }
 
+-- and so is what an open gives that is not refused
 pub good-open : (s : Setting) (iv : List ℕ) → badSetting s ≡ false → Good (openReceiver s iv .next)
 unfolding openRows
 good-open s iv h = rw h (good-new s iv h)

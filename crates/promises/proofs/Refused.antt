@@ -41,17 +41,18 @@ answer-within r c = code-within (look r) c
 pub refused-keeps : (r : Receiver) (c : Call) → answerTo r c .code ≢ 0 → Refusal.marks (answerTo r c .code) ≡ false → stateAfter r c ≡ r
 refused-keeps r c h m = after-no r c (answerTo r c .code) (sym (code-of r c)) h m
 
--- Offer and Gaps never change the state
 quiet : (r : Receiver) (c : Call) → effectOf c ≡ stay → stateAfter r c ≡ r
 unfolding stateAfter change
 quiet r c e =
     ap (change r) (effect-is (look r) c
     ∙ by-cases (λ (x : Effect). x ≡ stay) (authentic (outcome (look r) c .answer .code)) (effectOf c) stay (λ h. e) (λ h. refl))
 
+-- Offer never changes the state
 pub offer-stays : (r : Receiver) (rec : List ℕ) (slot : ℕ) → stateAfter r (offer rec slot) ≡ r
 unfolding effectOf
 offer-stays r rec slot = quiet r (offer rec slot) refl
 
+-- nor does Gaps
 pub gaps-stays : (r : Receiver) (slot : ℕ) → stateAfter r (gaps slot) ≡ r
 unfolding effectOf
 gaps-stays r slot = quiet r (gaps slot) refl
@@ -61,18 +62,22 @@ plain-table : (r : Receiver) (c : Call) → T (unmarking (rows (look r) c)) → 
 plain-table r c h = rw (code-of r c) (first-unmarking (rows (look r) c) h)
 
 module _ (r : Receiver) where
+  -- no answer of Offer marks
   pub offer-plain : (rec : List ℕ) (slot : ℕ) → Refusal.marks (answerTo r (offer rec slot) .code) ≡ false
   unfolding rows offerRows slotRows stateRows recordRows placeRows numberRows authentic Refusal.marks
   offer-plain rec slot = plain-table r (offer rec slot) tt
 
+  -- nor of Gaps
   pub gaps-plain : (slot : ℕ) → Refusal.marks (answerTo r (gaps slot) .code) ≡ false
   unfolding rows slotRows stateRows authentic Refusal.marks
   gaps-plain slot = plain-table r (gaps slot) tt
 
+  -- nor of a key change
   pub change-plain : (iv : List ℕ) → Refusal.marks (answerTo r (changeKey iv) .code) ≡ false
   unfolding rows stateRows authentic Refusal.marks
   change-plain iv = plain-table r (changeKey iv) tt
 
+  -- nor of Drop
   pub drop-plain : Refusal.marks (answerTo r dropOld .code) ≡ false
   unfolding rows stateRows authentic Refusal.marks
   drop-plain = plain-table r dropOld tt
@@ -101,14 +106,16 @@ refused-view r c h mode rec plain =
 -- ---- the same of the declared answers, call by call
 
 module _ (r : Receiver) where
+  -- a refused Offer
   pub refused-offer : (rec : List ℕ) (slot : ℕ) → offerOf r rec slot .answer ≢ 0
       → offerOf r rec slot ≡ record { answer = offerOf r rec slot .answer; count = 0; number = 0; nonce = zeros12; assoc = 0; text = 0 }
   refused-offer rec slot h = ap offered (refused-zeros r (offer rec slot) h)
 
+  -- a refused Gaps
   pub refused-gaps : (slot : ℕ) → gapsOf r slot .answer ≢ 0 → gapsOf r slot ≡ record { answer = gapsOf r slot .answer; gaps = 0 }
   refused-gaps slot h = ap counted (refused-zeros r (gaps slot) h)
 
-  -- one that marks returns another state (Marking)
+  -- a refused Settle that does not mark; Marking has the others
   pub refused-settle : (rec : List ℕ) (slot count number : ℕ) (passed : Bool) (plain : List ℕ)
       → settleOf r rec slot count number passed plain .answer ≢ 0 → Refusal.marks (settleOf r rec slot count number passed plain .answer) ≡ false
       → settleOf r rec slot count number passed plain
@@ -117,8 +124,10 @@ module _ (r : Receiver) where
       let c = settle rec slot count number passed plain in
       ap (settled (answerTo r c)) (refused-keeps r c h m) ∙ ap (λ (a : Answer). settled a r) (refused-zeros r c h)
 
+  -- a refused key change
   pub refused-change : (iv : List ℕ) → changeReceiver r iv .answer ≢ 0 → changeReceiver r iv ≡ record { answer = changeReceiver r iv .answer; next = r }
   refused-change iv h = ap (changed (answerTo r (changeKey iv))) (refused-keeps r (changeKey iv) h (change-plain r iv))
 
+  -- a refused Drop
   pub refused-drop : dropOf r .answer ≢ 0 → dropOf r ≡ record { answer = dropOf r .answer; next = r }
   refused-drop h = ap (changed (answerTo r dropOld)) (refused-keeps r dropOld h (drop-plain r))

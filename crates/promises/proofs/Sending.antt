@@ -79,6 +79,7 @@ pub sender-parts : (s : Sender) → badSender s ≡ false → (badSetting (s .se
 unfolding badSender
 sender-parts s h = let p = or-neither (badSetting (s .setting)) _ h in (p .0, ltb-false _ _ (p .1))
 
+-- and together
 pub sender-whole : (s : Sender) → badSetting (s .setting) ≡ false → s .next ≤ s .setting .limit → badSender s ≡ false
 unfolding badSender
 sender-whole s a b = rw (a, le-ltb (s .setting .limit) (s .next) b)

@@ -31,12 +31,14 @@ refused-data app = data-shown app .refused
 pub refused-message : (message : List ℕ) → readMessage message ≢ 0 → recordOf message ≡ []
 refused-message message = record-shown message .refused
 
--- every answer is 0 or a number of the list
+-- every answer of the writer of application data is 0 or a number of the list
 pub wrap-data-within : (integrity : Bool) (kind : ℕ) (body out : List ℕ) → wrapData integrity kind body out .0 .answer ≤ Refusal.Largest
 wrap-data-within integrity kind body out = wrap-data-careful integrity kind body out .within
 
+-- of the writer of a message too
 pub wrap-record-within : (rec out : List ℕ) → wrapRecord rec out .0 .answer ≤ Refusal.Largest
 wrap-record-within rec out = wrap-record-careful rec out .within
 
+-- and of the two readers
 pub read-within : (bytes : List ℕ) → (readData bytes .answer ≤ Refusal.Largest) × (readMessage bytes ≤ Refusal.Largest)
 read-within bytes = (data-shown bytes .within, record-shown bytes .within)

@@ -11,16 +11,21 @@ use Rattle.promises.specs.Tools.{Distinct, more}
 use Rattle.promises.specs.Run.{allMarked}
 use Rattle.promises.specs.Plain.{openPlain, plainAnswers}
 use Rattle.promises.specs.Ways.{Fails, Receives, rightReceives, answersIn, T1, T2}
-use Rattle.promises.specs.WrongReceivers.{set, iv, wrongReceivers, markTwice, refusesAll, numberZero, madeUpGaps, ageless}
-use Rattle.promises.specs.WrongReceivers.{forgetsToMark, marksFirst, oneWindow, clearsWindow, seesOneKey, seesNoMarks}
+use Rattle.promises.specs.WrongReceivers.{set, iv, wrongReceivers, markTwice}
+use Rattle.promises.specs.WrongReceivers.{refusesAll, numberZero, madeUpGaps, ageless, marksAtOffer, marksOnNo, ignoresStale}
+use Rattle.promises.specs.WrongReceivers.{forgetsToMark, marksFirst, oneWindow, movesRound, clearsWindow, seesOneKey, seesNoMarks}
 use Rattle.promises.proofs.Computing.{computing}
 use Rattle.promises.proofs.Failing.{fails}
 use Rattle.promises.proofs.Simulation as Simulation
 use Rattle.promises.proofs.Once as Once
 
--- opened by `unfolding wrongOnes`
+-- `unfolding wrongOnes` opens all of them
+wrongTables : Unit {0}
+unfolding refusesAll numberZero madeUpGaps ageless marksAtOffer marksOnNo ignoresStale
+wrongTables = tt
+
 wrongOnes : Unit {0}
-unfolding refusesAll numberZero madeUpGaps ageless forgetsToMark marksFirst oneWindow clearsWindow seesOneKey seesNoMarks
+unfolding wrongTables forgetsToMark marksFirst oneWindow movesRound clearsWindow seesOneKey seesNoMarks
 wrongOnes = tt
 
 -- ---- T1
@@ -35,11 +40,15 @@ lastSaid (a ∷ b ∷ l) = lastSaid (b ∷ l)
 lasts : Receives × List Call → (ℕ × ℕ × ℕ) × (ℕ × ℕ × ℕ)
 lasts x = (lastSaid (answersIn (x .0) set iv (x .1)), lastSaid (plainAnswers (openPlain set iv) (x .1)))
 
--- they differ: in the code, the number or the gap count
+-- in the list's order: they differ, in the code, the number or the gap count
 last-answers : map lasts wrongReceivers
     ≡ ((13, 0, 0), (0, 0, 0))
     ∷ ((0, 0, 0), (0, 1, 0))
     ∷ ((0, 0, 0), (0, 0, 1))
+    ∷ ((10, 0, 0), (0, 0, 0))
+    ∷ ((10, 0, 0), (0, 0, 0))
+    ∷ ((0, 0, 0), (11, 0, 0))
+    ∷ ((10, 0, 0), (0, 0, 0))
     ∷ ((10, 0, 0), (0, 0, 0))
     ∷ ((0, 0, 0), (9, 0, 0))
     ∷ ((0, 0, 0), (10, 0, 0))
@@ -80,7 +89,7 @@ right-answers = Simulation.as-plain
 marks : Receives × List Call → List (ℕ × ℕ)
 marks x = allMarked (x .1) (answersIn (x .0) set iv (x .1))
 
--- a pair of key count and number comes twice
+-- in the list's order: a pair of key count and number comes twice
 twice-marked : map marks markTwice
     ≡ ((0, 100) ∷ (0, 30) ∷ (0, 30) ∷ [])
     ∷ ((0, 0) ∷ (0, 0) ∷ [])

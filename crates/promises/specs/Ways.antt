@@ -33,6 +33,7 @@ pub record Receives : Type 0 where
   pub decides : View → Call → Outcome
   pub changes : Receiver → Effect → Receiver
 
+-- the receiver's own
 abbrev pub rightReceives : Receives
 rightReceives = record { looks = look; decides = outcome; changes = change }
 
@@ -50,6 +51,7 @@ T2 w = (s : Setting) (iv : List ℕ) (calls : List Call) → Distinct (allMarked
 
 -- ---- to send
 
+-- what a call does to a sender
 abbrev pub Sends : Type 0
 Sends = Sender → Send → Sending
 
@@ -67,6 +69,7 @@ T3 does = (s : Setting) (iv : List ℕ) (sends : List Send) (c : ℕ) → usedIn
 abbrev pub Builds : Type 0
 Builds = Sender → List ℕ → List ℕ → List ℕ → Built × List ℕ
 
+-- Build's own
 abbrev pub rightBuilds : Builds
 rightBuilds s app random out = (buildOf s (length app) (length random) (length out), buildOut s app random out)
 

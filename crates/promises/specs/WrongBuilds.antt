@@ -17,5 +17,6 @@ builtAsOther s app random out =
     let b = rightBuilds s app random out in
     (record { answer = b .0 .answer; number = 7; nonce = b .0 .nonce; assoc = b .0 .assoc; text = b .0 .text; total = b .0 .total; next = b .0 .next }, b .1)
 
+-- the table, and the way to build
 abbrev pub wrongBuilds : List ((View → Call → Outcome) × Builds)
 wrongBuilds = (outcome, writesNothing) ∷ (outcome, builtAsOther) ∷ (refusesAll, rightBuilds) ∷ (numberZero, rightBuilds) ∷ []

@@ -1,37 +1,42 @@
 -- Wrong receivers, each with a run on which it answers what the plain receiver does not, and those of them that mark a number twice.
 -- Assumes nothing.
-use Prim.Native.Nat.{ℕ, _+_}
-use mathlib.Core.Bool.{true, false, cond}
+use Prim.Native.Nat.{ℕ, _+_, _-_, _*_, _%_, _^_}
+use mathlib.Core.Bool.{Bool, true, false, cond}
 use mathlib.Core.List.{List, [], _∷_}
 use lib.Dec.{leb, eqb}
 use lib.ListN.{replicate}
 use Rattle.answers.specs.Refusal as Refusal
-use Rattle.channel.specs.Call.{Call, offer, settle, gaps, changeKey, only, Effect, stay, marking, turning, dropping, Outcome}
+use Rattle.channel.specs.Call.{Call, offer, settle, gaps, changeKey, dropOld, only, Effect, stay, marking, turning, dropping, Outcome}
 use Rattle.channel.specs.Receiver.{look, change}
 use Rattle.channel.specs.Rules.{granted, effectOf, outcome}
-use Rattle.channel.specs.View.{Face, View}
+use Rattle.channel.specs.View.{Face, View, numberAt}
 use Rattle.channel.specs.declared.receiver.Receiver.{Receiver}
 use Rattle.numbers.specs.Contract.{windowOf}
+use Rattle.numbers.specs.Word.{setBit, wordOf}
 use Rattle.record.specs.declared.setting.Setting.{Setting}
 use Rattle.promises.specs.Ways.{Receives}
 
 -- ---- the runs: from the open of this setting with this IV
 
+-- mode 0
 abbrev pub set : Setting
 set = record { mode = 0; session = 0x11223344; limit = 1000 }
 
+-- any will do
 abbrev pub iv : List ℕ
 iv = 0 ∷ 1 ∷ 2 ∷ 3 ∷ 4 ∷ 5 ∷ 6 ∷ 7 ∷ 8 ∷ 9 ∷ 10 ∷ 11 ∷ []
 
--- a record with the number n and no data, and its Settle in a slot, under a key count
+-- a record with the number n and no data
 abbrev pub rec : ℕ → List ℕ
 rec n = 0x44 ∷ 0x33 ∷ 0x22 ∷ 0x11 ∷ n ∷ 0 ∷ 16 ∷ 0 ∷ replicate 16 0
 
+-- its Settle in a slot, under a key count
 abbrev pub taking : ℕ → ℕ → ℕ → Call
 taking slot count n = settle (rec n) slot count n true []
 
 -- ---- wrong tables
 
+-- right but for the table
 abbrev pub byTable : (View → Call → Outcome) → Receives
 byTable decides = record { looks = look; decides = decides; changes = change }
 
@@ -70,8 +75,31 @@ madeUpGaps v c = says (outcome v c .answer .number) 0 (outcome v c)
 unfoldable pub ageless : View → Call → Outcome
 ageless v c = cond (eqb (outcome v c .answer .code) Refusal.Old) (record { answer = granted v c; effect = effectOf c }) (outcome v c)
 
+-- it marks at Offer
+unfoldable pub marksAtOffer : View → Call → Outcome
+marksAtOffer v c = record { answer = outcome v c .answer; effect = marksIf (eqb (outcome v c .answer .code) 0) c }
+  where
+    marksIf : Bool → Call → Effect
+    marksIf true (offer r slot) = marking slot (numberAt v r slot)
+    marksIf true (settle r slot count number passed plain) = outcome v c .effect
+    marksIf true (gaps slot) = outcome v c .effect
+    marksIf true (changeKey iv) = outcome v c .effect
+    marksIf true dropOld = outcome v c .effect
+    marksIf false c = outcome v c .effect
+
+-- it marks on the cipher's no
+unfoldable pub marksOnNo : View → Call → Outcome
+marksOnNo v c =
+    cond (eqb (outcome v c .answer .code) Refusal.Mac) (record { answer = outcome v c .answer; effect = effectOf c }) (outcome v c)
+
+-- it does not compare the number with the one that the cipher checked
+unfoldable pub ignoresStale : View → Call → Outcome
+ignoresStale v c =
+    cond (eqb (outcome v c .answer .code) Refusal.Stale) (record { answer = granted v c; effect = effectOf c }) (outcome v c)
+
 -- ---- wrong changes
 
+-- right but for the change
 abbrev pub byChange : (Receiver → Effect → Receiver) → Receives
 byChange changes = record { looks = look; decides = outcome; changes = changes }
 
@@ -107,8 +135,21 @@ clearsWindow r stay = r
 clearsWindow r (turning iv) = change r (turning iv)
 clearsWindow r dropping = change r dropping
 
+-- a move by the word's width and more goes round
+unfoldable pub movesRound : Receiver → Effect → Receiver
+movesRound r (marking slot n) =
+    let w = r .current .window in
+    let m = setBit (wordOf (w .marks) * 2 ^ ((n + 1 - w .next) % 64) % 2 ^ 64) 0 in
+    cond (leb (w .next) n)
+    (record { setting = r .setting; count = r .count; current = record { iv = r .current .iv; window = windowOf (n + 1) m }; held = r .held; old = r .old })
+    (change r (marking slot n))
+movesRound r stay = r
+movesRound r (turning iv) = change r (turning iv)
+movesRound r dropping = change r dropping
+
 -- ---- wrong looks
 
+-- right but for the look
 abbrev pub byLook : (Receiver → View) → Receives
 byLook looks = record { looks = looks; decides = outcome; changes = change }
 
@@ -146,5 +187,9 @@ wrongReceivers =
     (byTable refusesAll, offer (rec 0) 0 ∷ [])
     ∷ (byTable numberZero, taking 0 0 0 ∷ offer (rec 1) 0 ∷ [])
     ∷ (byTable madeUpGaps, taking 0 0 1 ∷ gaps 0 ∷ [])
+    ∷ (byTable marksAtOffer, offer (rec 0) 0 ∷ offer (rec 0) 0 ∷ [])
+    ∷ (byTable marksOnNo, settle (rec 0) 0 0 0 false [] ∷ offer (rec 0) 0 ∷ [])
+    ∷ (byTable ignoresStale, settle (rec 1) 0 0 0 true [] ∷ [])
+    ∷ (byChange movesRound, taking 0 0 0 ∷ taking 0 0 70 ∷ taking 0 0 64 ∷ [])
     ∷ (byChange oneWindow, taking 0 0 0 ∷ changeKey iv ∷ taking 0 1 0 ∷ [])
     ∷ markTwice

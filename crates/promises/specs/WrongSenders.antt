@@ -29,6 +29,7 @@ madeUpNumber s failed = sending s failed
 abbrev pub one : Send
 one = build (1 ∷ []) [] (replicate 40 0)
 
+-- each with its run and key count
 abbrev pub wrongSenders : List (Sends × List Send × ℕ)
 wrongSenders =
     (givesBack, one ∷ failed ∷ one ∷ [], 0)
