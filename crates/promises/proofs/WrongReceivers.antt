@@ -13,7 +13,7 @@ use Rattle.promises.specs.Plain.{openPlain, plainAnswers}
 use Rattle.promises.specs.Ways.{Fails, Receives, rightReceives, answersIn, T1, T2}
 use Rattle.promises.specs.WrongReceivers.{set, iv, wrongReceivers, markTwice}
 use Rattle.promises.specs.WrongReceivers.{refusesAll, numberZero, madeUpGaps, ageless, marksAtOffer, marksOnNo, ignoresStale}
-use Rattle.promises.specs.WrongReceivers.{forgetsToMark, marksFirst, oneWindow, movesRound, clearsWindow, seesOneKey, seesNoMarks}
+use Rattle.promises.specs.WrongReceivers.{marksBy, forgetsToMark, marksFirst, oneWindow, movesRound, clearsWindow, seesOneKey, seesNoMarks}
 use Rattle.promises.proofs.Computing.{computing}
 use Rattle.promises.proofs.Failing.{fails}
 use Rattle.promises.proofs.Simulation as Simulation
@@ -25,7 +25,7 @@ unfolding refusesAll numberZero madeUpGaps ageless marksAtOffer marksOnNo ignore
 wrongTables = tt
 
 wrongOnes : Unit {0}
-unfolding wrongTables forgetsToMark marksFirst oneWindow movesRound clearsWindow seesOneKey seesNoMarks
+unfolding wrongTables marksBy forgetsToMark marksFirst oneWindow movesRound clearsWindow seesOneKey seesNoMarks
 wrongOnes = tt
 
 -- ---- T1

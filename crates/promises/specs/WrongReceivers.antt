@@ -1,7 +1,7 @@
 -- Wrong receivers, each with a run on which it answers what the plain receiver does not, and those of them that mark a number twice.
 -- Assumes nothing.
 use Prim.Native.Nat.{ℕ, _+_, _-_, _*_, _%_, _^_}
-use mathlib.Core.Bool.{Bool, true, false, cond}
+use mathlib.Core.Bool.{true, false, cond}
 use mathlib.Core.List.{List, [], _∷_}
 use lib.Dec.{leb, eqb}
 use lib.ListN.{replicate}
@@ -77,15 +77,12 @@ ageless v c = cond (eqb (outcome v c .answer .code) Refusal.Old) (record { answe
 
 -- it marks at Offer
 unfoldable pub marksAtOffer : View → Call → Outcome
-marksAtOffer v c = record { answer = outcome v c .answer; effect = marksIf (eqb (outcome v c .answer .code) 0) c }
-  where
-    marksIf : Bool → Call → Effect
-    marksIf true (offer r slot) = marking slot (numberAt v r slot)
-    marksIf true (settle r slot count number passed plain) = outcome v c .effect
-    marksIf true (gaps slot) = outcome v c .effect
-    marksIf true (changeKey iv) = outcome v c .effect
-    marksIf true dropOld = outcome v c .effect
-    marksIf false c = outcome v c .effect
+marksAtOffer v (offer r slot) =
+    record { answer = outcome v (offer r slot) .answer; effect = cond (eqb (outcome v (offer r slot) .answer .code) 0) (marking slot (numberAt v r slot)) stay }
+marksAtOffer v (settle r slot count number passed plain) = outcome v (settle r slot count number passed plain)
+marksAtOffer v (gaps slot) = outcome v (gaps slot)
+marksAtOffer v (changeKey iv) = outcome v (changeKey iv)
+marksAtOffer v dropOld = outcome v dropOld
 
 -- it marks on the cipher's no
 unfoldable pub marksOnNo : View → Call → Outcome
@@ -103,20 +100,6 @@ ignoresStale v c =
 abbrev pub byChange : (Receiver → Effect → Receiver) → Receives
 byChange changes = record { looks = look; decides = outcome; changes = changes }
 
--- a Settle that forgets to mark
-unfoldable pub forgetsToMark : Receiver → Effect → Receiver
-forgetsToMark r (marking slot n) = r
-forgetsToMark r stay = r
-forgetsToMark r (turning iv) = change r (turning iv)
-forgetsToMark r dropping = change r dropping
-
--- one that marks the first number only
-unfoldable pub marksFirst : Receiver → Effect → Receiver
-marksFirst r (marking slot n) = cond (eqb (r .current .window .next) 0) (change r (marking slot n)) r
-marksFirst r stay = r
-marksFirst r (turning iv) = change r (turning iv)
-marksFirst r dropping = change r dropping
-
 -- one window for both keys: a new key goes on with it
 unfoldable pub oneWindow : Receiver → Effect → Receiver
 oneWindow r (turning iv) =
@@ -125,27 +108,40 @@ oneWindow r stay = r
 oneWindow r (marking slot n) = change r (marking slot n)
 oneWindow r dropping = change r dropping
 
--- the window is cleared when it moves
-unfoldable pub clearsWindow : Receiver → Effect → Receiver
-clearsWindow r (marking slot n) =
+-- right but for what becomes of the state when the number n is marked in a slot
+unfoldable pub marksBy : (Receiver → ℕ → ℕ → Receiver) → Receiver → Effect → Receiver
+marksBy marks r (marking slot n) = marks r slot n
+marksBy marks r stay = r
+marksBy marks r (turning iv) = change r (turning iv)
+marksBy marks r dropping = change r dropping
+
+abbrev pub byMark : (Receiver → ℕ → ℕ → Receiver) → Receives
+byMark marks = byChange (marksBy marks)
+
+-- a Settle that forgets to mark
+unfoldable pub forgetsToMark : Receiver → ℕ → ℕ → Receiver
+forgetsToMark r slot n = r
+
+-- one that marks the first number only
+unfoldable pub marksFirst : Receiver → ℕ → ℕ → Receiver
+marksFirst r slot n = cond (eqb (r .current .window .next) 0) (change r (marking slot n)) r
+
+-- with another word when the current key's window moves to n
+abbrev pub movesTo : ℕ → Receiver → ℕ → ℕ → Receiver
+movesTo word r slot n =
     cond (leb (r .current .window .next) n)
-    (record { setting = r .setting; count = r .count; current = record { iv = r .current .iv; window = windowOf (n + 1) 1 }; held = r .held; old = r .old })
+    (record { setting = r .setting; count = r .count; current = record { iv = r .current .iv; window = windowOf (n + 1) word }; held = r .held; old = r .old })
     (change r (marking slot n))
-clearsWindow r stay = r
-clearsWindow r (turning iv) = change r (turning iv)
-clearsWindow r dropping = change r dropping
+
+-- the window is cleared when it moves
+unfoldable pub clearsWindow : Receiver → ℕ → ℕ → Receiver
+clearsWindow r slot n = movesTo 1 r slot n
 
 -- a move by the word's width and more goes round
-unfoldable pub movesRound : Receiver → Effect → Receiver
-movesRound r (marking slot n) =
+unfoldable pub movesRound : Receiver → ℕ → ℕ → Receiver
+movesRound r slot n =
     let w = r .current .window in
-    let m = setBit (wordOf (w .marks) * 2 ^ ((n + 1 - w .next) % 64) % 2 ^ 64) 0 in
-    cond (leb (w .next) n)
-    (record { setting = r .setting; count = r .count; current = record { iv = r .current .iv; window = windowOf (n + 1) m }; held = r .held; old = r .old })
-    (change r (marking slot n))
-movesRound r stay = r
-movesRound r (turning iv) = change r (turning iv)
-movesRound r dropping = change r dropping
+    movesTo (setBit (wordOf (w .marks) * 2 ^ ((n + 1 - w .next) % 64) % 2 ^ 64) 0) r slot n
 
 -- ---- wrong looks
 
@@ -174,9 +170,9 @@ seesNoMarks r = faced (look r) (unmarked (look r .current)) (unmarked (look r .o
 abbrev pub markTwice : List (Receives × List Call)
 markTwice =
     (byTable ageless, taking 0 0 100 ∷ taking 0 0 30 ∷ taking 0 0 30 ∷ [])
-    ∷ (byChange forgetsToMark, taking 0 0 0 ∷ taking 0 0 0 ∷ [])
-    ∷ (byChange marksFirst, taking 0 0 0 ∷ taking 0 0 1 ∷ taking 0 0 1 ∷ [])
-    ∷ (byChange clearsWindow, taking 0 0 0 ∷ taking 0 0 1 ∷ taking 0 0 0 ∷ [])
+    ∷ (byMark forgetsToMark, taking 0 0 0 ∷ taking 0 0 0 ∷ [])
+    ∷ (byMark marksFirst, taking 0 0 0 ∷ taking 0 0 1 ∷ taking 0 0 1 ∷ [])
+    ∷ (byMark clearsWindow, taking 0 0 0 ∷ taking 0 0 1 ∷ taking 0 0 0 ∷ [])
     ∷ (byLook seesOneKey, taking 0 0 0 ∷ changeKey iv ∷ taking 1 0 0 ∷ [])
     ∷ (byLook seesNoMarks, taking 0 0 0 ∷ taking 0 0 0 ∷ [])
     ∷ []
@@ -190,6 +186,6 @@ wrongReceivers =
     ∷ (byTable marksAtOffer, offer (rec 0) 0 ∷ offer (rec 0) 0 ∷ [])
     ∷ (byTable marksOnNo, settle (rec 0) 0 0 0 false [] ∷ offer (rec 0) 0 ∷ [])
     ∷ (byTable ignoresStale, settle (rec 1) 0 0 0 true [] ∷ [])
-    ∷ (byChange movesRound, taking 0 0 0 ∷ taking 0 0 70 ∷ taking 0 0 64 ∷ [])
+    ∷ (byMark movesRound, taking 0 0 0 ∷ taking 0 0 70 ∷ taking 0 0 64 ∷ [])
     ∷ (byChange oneWindow, taking 0 0 0 ∷ changeKey iv ∷ taking 0 1 0 ∷ [])
     ∷ markTwice
