@@ -1,6 +1,6 @@
 -- A refused open, of a sender or a receiver, answers 2 and zeros; an open that is granted gives a good state.
 -- Assumes nothing.
-use Prim.Native.Nat.{ℕ}
+use Prim.Native.Nat.{ℕ, _≤_}
 use mathlib.Core.Path.{_≡_, refl}
 use mathlib.Core.Logic.{_≢_}
 use mathlib.Core.Bool.{Bool, true, false}
@@ -36,6 +36,15 @@ module _ (s : Setting) (iv : List ℕ) where
       go : (b : Bool) → badSetting s ≡ b → openSender s iv .answer ≢ 0 → openSender s iv ≡ record { answer = Refusal.Setting; next = zeroSender }
       go true e = rw e (λ h. refl)
       go false e = rw e (λ h. absurd (h refl))
+
+  -- every answer of an open is 0 or a number of the list
+  pub opens-within : (openReceiver s iv .answer ≤ Refusal.Largest) × (openSender s iv .answer ≤ Refusal.Largest)
+  unfolding openRows
+  opens-within = go (badSetting s) refl
+    where
+      go : (b : Bool) → badSetting s ≡ b → (openReceiver s iv .answer ≤ Refusal.Largest) × (openSender s iv .answer ≤ Refusal.Largest)
+      go true e = rw e (omega arith, omega arith)
+      go false e = rw e (omega arith, omega arith)
 
   -- an open that is granted gives a good receiver
   pub opens-good-receiver : openReceiver s iv .answer ≡ 0 → badReceiver (openReceiver s iv .next) ≡ false
