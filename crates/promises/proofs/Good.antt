@@ -15,8 +15,7 @@ use Rattle.channel.specs.Receiver.{newReceiver, badReceiver, openReceiver, look
 use Rattle.channel.specs.View.{View, noKey}
 use Rattle.channel.specs.declared.receiver.Receiver.{Receiver}
 use Rattle.numbers.proofs.Laws.{empty-is, sound-none, sound-after}
-use Rattle.numbers.specs.Contract.{emptyWindow, soundWindow, after}
-use Rattle.numbers.specs.declared.window.Window.{Window}
+use Rattle.numbers.specs.Contract.{soundWindow}
 use Rattle.octets.specs.Fields.{blank}
 use Rattle.record.specs.Setting.{badSetting, openRows, ruleOf}
 use Rattle.record.specs.declared.setting.Setting.{Setting}
@@ -24,6 +23,7 @@ use Rattle.promises.proofs.Passed.{Allowed, marks, allowed}
 
 -- ---- the rules
 
+-- each rule behind State, by name
 pub record Good (r : Receiver) : Type 0 where
   pub accepted : badSetting (r .setting) ≡ false
   pub sound-current : soundWindow (ruleOf (r .setting)) (r .current .window) ≡ true
@@ -40,6 +40,7 @@ good-old true b c e = (λ h. absurd (true-not-false refl h), λ h. e)
 good-old false true c e = (λ h. refl, λ h. absurd (true-not-false h refl))
 good-old false false c e = absurd (true-not-false refl e)
 
+-- a state that keeps each is not State
 pub good-whole : (r : Receiver) → Good r → badReceiver r ≡ false
 unfolding badReceiver
 good-whole r G =
@@ -47,6 +48,7 @@ good-whole r G =
     (old-good (r .held) (isZeroKey (r .old)) (eqb (r .count) 0) (G .blanks)
     (λ h. let c : 0 < r .count = G .counted h in ne-eqb (r .count) 0 (omega arith)))
 
+-- and the other way round
 pub good-parts : (r : Receiver) → badReceiver r ≡ false → Good r
 unfolding badReceiver
 good-parts r e =
@@ -62,17 +64,10 @@ good-parts r e =
       counted = λ h. let n : r .count ≢ 0 = eqb-false _ _ (d .1 h) in omega arith;
     }
 
--- ---- a new key, and a marked one
-
-pub new-sound : (s : Setting) → soundWindow (ruleOf s) emptyWindow ≡ true
-new-sound s = sound-none (ruleOf s)
-
-pub new-blank : isZeroKey zeroKey ≡ true
+-- the zeros of a key are zero
+new-blank : isZeroKey zeroKey ≡ true
 unfolding isZeroKey blank
 new-blank = empty-is
-
-pub mark-good : (s : Setting) (w : Window) (n : ℕ) → soundWindow (ruleOf s) w ≡ true → soundWindow (ruleOf s) (after (ruleOf s) w n) ≡ true
-mark-good s w n h = sound-after (ruleOf s) w h n
 
 -- the old slot has a key only where it is held
 pub held-there : (v : View) (slot : ℕ) → noKey v slot ≡ false → eqb slot 0 ≡ false → v .held ≡ true
@@ -92,7 +87,7 @@ mark-change r slot n true e G h =
     rw e
     (record {
       accepted = G .accepted;
-      sound-current = mark-good (r .setting) (r .current .window) n (G .sound-current);
+      sound-current = sound-after (ruleOf (r .setting)) (r .current .window) (G .sound-current) n;
       sound-old = G .sound-old;
       blanks = G .blanks;
       counted = G .counted;
@@ -102,11 +97,12 @@ mark-change r slot n false e G h =
     (record {
       accepted = G .accepted;
       sound-current = G .sound-current;
-      sound-old = mark-good (r .setting) (r .old .window) n (G .sound-old);
+      sound-old = sound-after (ruleOf (r .setting)) (r .old .window) (G .sound-old) n;
       blanks = λ f. absurd (true-not-false (h refl) f);
       counted = G .counted;
     })
 
+-- what a call may do keeps a good state good
 pub good-change : (r : Receiver) (e : Effect) → Good r → Allowed (look r) e → Good (change r e)
 unfolding change look
 good-change r stay G a = G
@@ -114,7 +110,7 @@ good-change r (marking slot n) G (marks key place) = mark-change r slot n (eqb s
 good-change r (turning iv) G a =
     record {
       accepted = G .accepted;
-      sound-current = new-sound (r .setting);
+      sound-current = sound-none (ruleOf (r .setting));
       sound-old = G .sound-current;
       blanks = λ f. absurd (true-not-false refl f);
       counted = λ f. omega arith;
@@ -123,25 +119,28 @@ good-change r dropping G a =
     record {
       accepted = G .accepted;
       sound-current = G .sound-current;
-      sound-old = new-sound (r .setting);
+      sound-old = sound-none (ruleOf (r .setting));
       blanks = λ f. new-blank;
       counted = λ f. absurd (true-not-false f refl);
     }
 
+-- no call returns a bad state from a good one
 pub good-kept : (r : Receiver) (c : Call) → badReceiver r ≡ false → badReceiver (stateAfter r c) ≡ false
 unfolding stateAfter
 good-kept r c e = good-whole _ (good-change r _ (good-parts r e) (allowed (look r) c))
 
+-- a new receiver is good
 pub good-new : (s : Setting) (iv : List ℕ) → badSetting s ≡ false → Good (newReceiver s iv)
 good-new s iv h =
     record {
       accepted = h;
-      sound-current = new-sound s;
-      sound-old = new-sound s;
+      sound-current = sound-none (ruleOf s);
+      sound-old = sound-none (ruleOf s);
       blanks = λ f. new-blank;
       counted = λ f. absurd (true-not-false f refl);
     }
 
+-- and so is what an open gives that is not refused
 pub good-open : (s : Setting) (iv : List ℕ) → badSetting s ≡ false → Good (openReceiver s iv .next)
 unfolding openRows
 good-open s iv h = rw h (good-new s iv h)

@@ -1,7 +1,12 @@
 pub mod Passed
 pub mod Good
+pub mod Refused
+pub mod Marking
+pub mod Sending
 pub mod Alike
 pub mod Simulation
+pub mod Opening
+pub mod Wrapping
 pub mod Once
 pub mod Sends
 pub mod Refusals
@@ -11,7 +16,10 @@ pub mod Replay
 pub mod Toy
 pub mod Example
 pub mod Trip
-pub mod Marking
 pub mod Laid
 pub mod Demands
-pub mod Wrong
+pub mod Computing
+pub mod Failing
+pub mod WrongReceivers
+pub mod WrongSenders
+pub mod WrongBuilds

@@ -1,16 +1,19 @@
--- What an authentic record's Settle does to the state: it marks the number that it was called with in its slot, and just that.
+-- The Settle of an authentic record marks the number that it was called with in its slot, and just that; of the refusals Inner alone does.
 -- Assumes nothing.
 use Prim.Native.Nat.{ℕ, _+_, _-_, _≤_, _<_}
-use mathlib.Core.Path.{_≡_, refl}
+use mathlib.Core.Path.{_≡_, refl, ap, _∙_}
+use mathlib.Core.Logic.{_≢_, _↔_}
 use mathlib.Core.Bool.{Bool, true, false, _&&_, _||_}
 use mathlib.Core.List.{List}
 use native.Mathlib.Omega.{arith}
 use lib.Dec.{leb, eqb}
-use Rattle.numbers.proofs.Laws.{seen-after}
+use borrow.Author.Tests.{eqb-true, eq-eqb, ne-eqb}
+use Rattle.numbers.proofs.Laws.{seen-after, next-after}
 use Rattle.channel.proofs.Outcome.{effect-is}
+use Rattle.answers.specs.Refusal as Refusal
 use Rattle.answers.specs.Refusal.{authentic}
 use Rattle.answers.proofs.Tests.{true-not-false}
-use Rattle.channel.specs.Call.{settle, marking}
+use Rattle.channel.specs.Call.{Call, offer, settle, gaps, changeKey, dropOld, only, marking}
 use Rattle.channel.specs.Receiver.{look, change, answerTo, stateAfter}
 use Rattle.channel.specs.Rules.{effectOf}
 use Rattle.channel.specs.View.{keyAt}
@@ -21,18 +24,10 @@ use Rattle.record.specs.Setting.{ruleOf}
 use Rattle.record.specs.declared.setting.Setting.{Setting}
 use Rattle.promises.proofs.Passed.{PlaceIn, settle-passed}
 use Rattle.promises.proofs.Good.{Good, good-parts}
-use Rattle.promises.specs.Premises.{keyIn}
-
-pub record MarksJust (r x : Receiver) (slot n : ℕ) : Type 0 where
-  pub setting : x .setting ≡ r .setting
-  pub count : x .count ≡ r .count
-  pub held : x .held ≡ r .held
-  pub other-old : eqb slot 0 ≡ true → x .old ≡ r .old
-  pub other-current : eqb slot 0 ≡ false → x .current ≡ r .current
-  pub iv : keyIn x slot .iv ≡ keyIn r slot .iv
-  -- within the width a number is marked after it where it is n or was marked before
-  pub seen : (k : ℕ) → seenBy (keyIn x slot .window) k
-      ≡ (leb (keyIn x slot .window .next) (k + widthOf (ruleOf (r .setting))) && (eqb k n || seenBy (keyIn r slot .window) k))
+use Rattle.promises.proofs.Refused.{refused-zeros, refused-keeps, offer-plain, gaps-plain, change-plain, drop-plain}
+use Rattle.promises.specs.Tools.{or-more}
+use Rattle.promises.specs.Marks.{Marked}
+pub use Rattle.promises.specs.Marks.{MarksJust}
 
 window-marks : (s : Setting) (w : Window) (n k : ℕ) → soundWindow (ruleOf s) w ≡ true → n < s .limit → w .next - n ≤ widthOf (ruleOf s)
     → seenBy (after (ruleOf s) w n) k ≡ (leb (after (ruleOf s) w n .next) (k + widthOf (ruleOf s)) && (eqb k n || seenBy w k))
@@ -49,6 +44,7 @@ marks-slot r slot n true e G l y =
       other-old = λ h. rw e;
       other-current = λ h. rw e (absurd (true-not-false e h));
       iv = rw e;
+      next = rw e (next-after (ruleOf (r .setting)) (r .current .window) n l);
       seen = λ k. rw e (window-marks (r .setting) (r .current .window) n k (G .sound-current) l (rw e at y));
     }
 marks-slot r slot n false e G l y =
@@ -59,6 +55,7 @@ marks-slot r slot n false e G l y =
       other-old = λ h. absurd (true-not-false h e);
       other-current = λ h. rw e;
       iv = rw e;
+      next = rw e (next-after (ruleOf (r .setting)) (r .old .window) n l);
       seen = λ k. rw e (window-marks (r .setting) (r .old .window) n k (G .sound-old) l (rw e at y));
     }
 
@@ -66,6 +63,7 @@ marks-view : (r : Receiver) (slot n : ℕ) → look r .bad ≡ false → PlaceIn
 unfolding look
 marks-view r slot n g P = marks-slot r slot n (eqb slot 0) refl (good-parts r g) (P .spare) (P .young)
 
+-- an authentic record's Settle, whether it answers 0 or is refused, marks its number and just that
 pub marks-just : (r : Receiver) (a : List ℕ) (slot count n : ℕ) (passed : Bool) (plain : List ℕ)
     → authentic (answerTo r (settle a slot count n passed plain) .code) ≡ true
     → MarksJust r (stateAfter r (settle a slot count n passed plain)) slot n
@@ -74,3 +72,40 @@ marks-just r a slot count n passed plain h =
     let P = settle-passed (look r) a slot count n passed plain h in
     rw (effect-is (look r) (settle a slot count n passed plain), h)
     (marks-view r slot n (P .in-slot .good) (P .place))
+
+-- ---- the refusals that mark
+
+-- Inner alone marks
+pub inner-alone : (k : ℕ) → (Refusal.marks k ≡ true) ↔ (k ≡ Refusal.Inner)
+unfolding Refusal.marks
+inner-alone k = (eqb-true k Refusal.Inner, eq-eqb k Refusal.Inner)
+
+marked-authentic : (k : ℕ) → Refusal.marks k ≡ true → authentic k ≡ true
+unfolding authentic
+marked-authentic k m = or-more (eqb k 0) _ m
+
+-- a call that is refused with a refusal that marks is a Settle, and its number is marked, and just that
+pub marks-one : (r : Receiver) (c : Call) → Refusal.marks (answerTo r c .code) ≡ true → Marked r c
+marks-one r (offer rec slot) m = true-not-false m (offer-plain r rec slot)
+marks-one r (settle rec slot count n passed plain) m = marks-just r rec slot count n passed plain (marked-authentic _ m)
+marks-one r (gaps slot) m = true-not-false m (gaps-plain r slot)
+marks-one r (changeKey iv) m = true-not-false m (change-plain r iv)
+marks-one r dropOld m = true-not-false m (drop-plain r)
+
+-- a call that answers Inner answers that and zeros, and is a Settle that marks its number, and just that
+pub inner-marks : (r : Receiver) (c : Call) → answerTo r c .code ≡ Refusal.Inner → (answerTo r c ≡ only Refusal.Inner) × Marked r c
+inner-marks r c e =
+    (refused-zeros r c (λ z. omega arith) ∙ ap only e, marks-one r c (inner-alone _ .1 e))
+
+-- any other refusal returns the state given
+pub others-keep : (r : Receiver) (c : Call) → answerTo r c .code ≢ 0 → answerTo r c .code ≢ Refusal.Inner → stateAfter r c ≡ r
+unfolding Refusal.marks
+others-keep r c h n = refused-keeps r c h (ne-eqb _ Refusal.Inner n)
+
+-- a refusal with which the state changed is Inner, and marked its number, and just that
+pub changed-marks : (r : Receiver) (c : Call) → answerTo r c .code ≢ 0 → stateAfter r c ≢ r → (answerTo r c .code ≡ Refusal.Inner) × Marked r c
+changed-marks r c h n = go (Refusal.marks (answerTo r c .code)) refl
+  where
+    go : (b : Bool) → Refusal.marks (answerTo r c .code) ≡ b → (answerTo r c .code ≡ Refusal.Inner) × Marked r c
+    go true m = (inner-alone _ .0 m, marks-one r c m)
+    go false m = absurd (n (refused-keeps r c h m))

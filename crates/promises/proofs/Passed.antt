@@ -18,6 +18,7 @@ use Rattle.channel.specs.Rules.{stateRows, slotRows, placeRowsAt, offerRows, ci
 use Rattle.channel.specs.View.{View, noKey, keyAt, countAt, numberAt}
 use Rattle.numbers.specs.Contract.{widthOf}
 use Rattle.numbers.specs.Number.{numberRows}
+use Rattle.record.proofs.Sizes.{passed-session, passed-total, passed-least}
 use Rattle.record.specs.Header.{sessionOf, lengthOf}
 use Rattle.record.specs.Read.{recordRows, placeRows}
 use Rattle.record.specs.Setting.{ruleOf}
@@ -29,50 +30,57 @@ use Rattle.record.specs.declared.setting.Setting.{Setting}
 same : (a b : ℕ) → differ a b ≡ false → a ≡ b
 same a b h = eqb-true a b (not-false _ h)
 
+-- 1, 3
 pub record Slot (v : View) (slot : ℕ) : Type 0 where
   pub good : v .bad ≡ false
   pub key : noKey v slot ≡ false
 
+-- the slot's checks passed
 pub slot-passed : (v : View) (slot : ℕ) → first (slotRows v slot) ≡ 0 → Slot v slot
 unfolding slotRows stateRows
 slot-passed v slot e =
     let p : (k : ℕ) → testOf k (slotRows v slot) ≡ false = λ k. row-passed k (slotRows v slot) tt e in
     record { good = p Refusal.State; key = p Refusal.Key }
 
+-- 4 to 7
 pub record Frame (s : Setting) (r : List ℕ) : Type 0 where
   pub long : headLen s ≤ length r
   pub session : sessionOf s r ≡ s .session
   pub exact : length r ≡ totalOf s r
   pub big : least s ≤ lengthOf s r
 
+-- the record's checks passed
 pub frame-passed : (s : Setting) (r : List ℕ) → first (recordRows s r) ≡ 0 → Frame s r
-unfolding recordRows
+unfolding recordRows totalOf
 frame-passed s r e =
-    let p : (k : ℕ) → testOf k (recordRows s r) ≡ false = λ k. row-passed k (recordRows s r) tt e in
     record {
-      long = ltb-false _ _ (p Refusal.Short);
-      session = same _ _ (p Refusal.Session);
-      exact = same _ _ (p Refusal.Length);
-      big = ltb-false _ _ (p Refusal.Small);
+      long = ltb-false _ _ (row-passed Refusal.Short (recordRows s r) tt e);
+      session = passed-session s r e;
+      exact = passed-total s r e;
+      big = passed-least s r e;
     }
 
+-- 8 to 10
 pub record Place (w l e : ℕ) (seen : ℕ → Bool) (n : ℕ) : Type 0 where
   pub spare : n < l
   pub young : e - n ≤ w
   pub fresh : seen n ≡ false
 
+-- the number's checks passed
 pub place-passed : (w l e : ℕ) (seen : ℕ → Bool) (n : ℕ) → first (numberRows w l e seen n) ≡ 0 → Place w l e seen n
 unfolding numberRows
 place-passed w l e seen n h =
     let p : (k : ℕ) → testOf k (numberRows w l e seen n) ≡ false = λ k. row-passed k (numberRows w l e seen n) tt h in
     record { spare = leb-false _ _ (p Refusal.Spent); young = ltb-false _ _ (p Refusal.Old); fresh = p Refusal.Repeat }
 
+-- 11 to 13
 pub record Cipher (v : View) (r : List ℕ) (slot count number : ℕ) (passed : Bool) (plain : List ℕ) : Type 0 where
   pub same-count : count ≡ countAt v slot
   pub same-number : number ≡ numberAt v r slot
   pub buffer : length plain ≡ plainLen (v .setting) r
   pub says : passed ≡ true
 
+-- the checks of the cipher's answer passed
 pub cipher-passed : (v : View) (r : List ℕ) (slot count number : ℕ) (passed : Bool) (plain : List ℕ)
     → first (cipherRows v r slot count number passed plain) ≡ 0 → Cipher v r slot count number passed plain
 unfolding cipherRows
@@ -84,23 +92,28 @@ cipher-passed v r slot count number passed plain e =
 
 -- ---- Offer and Settle
 
+-- the number's checks, by the key of a slot
 abbrev pub PlaceIn : View → ℕ → ℕ → Type 0
 PlaceIn v slot n = Place (widthOf (ruleOf (v .setting))) (v .setting .limit) (keyAt v slot .next) (keyAt v slot .seen) n
 
+-- 1, 3 to 10
 pub record Offers (v : View) (r : List ℕ) (slot : ℕ) : Type 0 where
   pub in-slot : Slot v slot
   pub framed : first (recordRows (v .setting) r) ≡ 0
   pub frame : Frame (v .setting) r
   pub place : PlaceIn v slot (numberAt v r slot)
 
+-- no check of the slot has the number 0
 pub slot-numbered : (v : View) (slot : ℕ) → T (numbered (slotRows v slot))
 unfolding slotRows stateRows
 slot-numbered v slot = tt
 
+-- nor has one of the record
 pub frame-numbered : (s : Setting) (r : List ℕ) → T (numbered (recordRows s r))
 unfolding recordRows
 frame-numbered s r = tt
 
+-- Offer's checks passed
 pub offer-passed : (v : View) (r : List ℕ) (slot : ℕ) → first (offerRows v r slot) ≡ 0 → Offers v r slot
 unfolding offerRows placeRows numberRows
 offer-passed v r slot e =
@@ -130,6 +143,7 @@ cipher-unmarking : (v : View) (r : List ℕ) (slot count number : ℕ) (passed :
 unfolding cipherRows authentic Refusal.marks
 cipher-unmarking v r slot count number passed plain = tt
 
+-- where Settle's table says 0 or a refusal that marks, the record was authentic
 pub table-passed : (v : View) (r : List ℕ) (slot count number : ℕ) (passed : Bool) (plain : List ℕ)
     → authentic (first (rows v (settle r slot count number passed plain))) ≡ true → Passed v r slot count number passed plain
 unfolding rows
@@ -141,6 +155,7 @@ table-passed v r slot count number passed plain e =
     let c = cipher-passed v r slot count number passed plain (q .0) in
     record { in-slot = o .in-slot; framed = o .framed; frame = o .frame; place = rw (c .same-number) (o .place); cipher = c }
 
+-- where Settle answers that, likewise
 pub settle-passed : (v : View) (r : List ℕ) (slot count number : ℕ) (passed : Bool) (plain : List ℕ)
     → authentic (outcome v (settle r slot count number passed plain) .answer .code) ≡ true → Passed v r slot count number passed plain
 settle-passed v r slot count number passed plain e =
@@ -148,6 +163,7 @@ settle-passed v r slot count number passed plain e =
 
 -- ---- what a call may do to the state that it was given
 
+-- it stays, marks a number that passed its checks, turns to a new key or drops the old one
 pub data Allowed (v : View) : Effect → Type 0 where
   stays : Allowed v stay
   marks : {slot n : ℕ} → noKey v slot ≡ false → PlaceIn v slot n → Allowed v (marking slot n)
@@ -163,6 +179,7 @@ effect-allowed v (gaps slot) h = stays
 effect-allowed v (changeKey iv) h = turns
 effect-allowed v dropOld h = drops
 
+-- every call does one of these
 pub allowed : (v : View) (c : Call) → Allowed v (outcome v c .effect)
 allowed v c =
     rw (effect-is v c)

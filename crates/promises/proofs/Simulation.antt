@@ -169,7 +169,7 @@ bad-outcome v c h =
     let e : outcome v c .effect ≡ stay = effect-is v c ∙ rw k in
     λ i. record { answer = a i; effect = e i }
 
-bad-answers : {S : Type 0} (looks : S → View) (changes : S → Effect → S) (s : S) → changes s stay ≡ s → looks s .bad ≡ true
+pub bad-answers : {S : Type 0} (looks : S → View) (changes : S → Effect → S) (s : S) → changes s stay ≡ s → looks s .bad ≡ true
     → (cs : List Call) → answersBy looks outcome changes s cs ≡ map (λ c. only Refusal.State) cs
 unfolding answersBy afterBy
 bad-answers looks changes s e h [] = refl

@@ -5,3 +5,8 @@ pub mod SendRun
 pub mod World
 pub mod Premises
 pub mod Barred
+pub mod Marks
+pub mod Ways
+pub mod WrongReceivers
+pub mod WrongSenders
+pub mod WrongBuilds
