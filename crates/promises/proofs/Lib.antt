@@ -5,12 +5,16 @@ pub mod Simulation
 pub mod Once
 pub mod Sends
 pub mod Refusals
+pub mod Builds
 pub mod Made
 pub mod EndToEnd
 pub mod Replay
 pub mod Toy
 pub mod Example
-pub mod Trip
+pub mod FramePasses
+pub mod NumberFound
+pub mod Settles
+pub mod ReadBack
 pub mod Marking
 pub mod Laid
 pub mod Demands

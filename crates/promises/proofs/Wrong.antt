@@ -33,8 +33,9 @@ use Rattle.record.specs.declared.setting.Setting.{Setting}
 use Rattle.promises.specs.Run.{afterBy, answersBy}
 use Rattle.promises.specs.Plain.{oldOf, openPlain, plainLook, rememberFirst, plainChange, plainAnswers}
 use Rattle.promises.specs.SendRun.{Send, build, turnKey, failed, Sending, sending, usedBy, under, from}
-use Rattle.promises.proofs.Demands.{builtOf, read-back, answers-as-plain, sends-in-order}
-use Rattle.promises.specs.Premises.{CanBuild, CanTake, sealedRecord}
+use Rattle.promises.proofs.Demands.{read-back, answers-as-plain, sends-in-order}
+use Rattle.promises.specs.Premises.{CanBuild, CanTake}
+use Rattle.promises.specs.ReadBack.{builtOf, sealedRecord}
 
 set : Setting
 set = record { mode = 0; session = 0x11223344; limit = 1000 }
@@ -220,7 +221,7 @@ not-made-up h =
 
 Reads : (Sender → List ℕ → List ℕ → List ℕ → List ℕ) → Type 0
 Reads writes = (s : Sender) (app random out sealed mac : List ℕ) (r : Receiver) (slot : ℕ) → CanBuild s app random out → CanTake r slot s
-    → s .setting .session < 2 ^ 32 → length sealed ≡ builtOf s app random out .text - builtOf s app random out .assoc → length mac ≡ macLen (s .setting)
+    → length sealed ≡ builtOf s app random out .text - builtOf s app random out .assoc → length mac ≡ macLen (s .setting)
     → answerTo r (offer (sealedRecord (builtOf s app random out) (writes s app random out) sealed mac) slot) .code ≡ 0
 
 -- a Build that writes nothing
@@ -229,7 +230,7 @@ silent s app random out = out
 
 can-build : CanBuild (newSender set iv) (1 ∷ []) [] (replicate 40 0)
 unfolding set badSender badSetting headLen macLen mostLength bodyLen authOnly
-can-build = record { state = refl; left = omega arith; padding = λ h. refl; size = omega arith; room = omega arith }
+can-build = record { declared = record { session = omega arith }; state = refl; left = omega arith; padding = λ h. refl; size = omega arith; room = omega arith }
 
 can-take : CanTake (newReceiver set iv) 0 (newSender set iv)
 unfolding set badReceiver badSetting isZeroKey blank soundWindow sound widthOf marked wordOf marksOf windowOf seenBy isEmpty spread windowWidth placeRows numberRows
@@ -238,8 +239,7 @@ can-take = record {
   alike = refl;
   there = inl refl;
   iv = refl;
-  low = omega arith;
-  high = inl (omega arith);
+  reach = (omega arith, inl (omega arith));
   young = omega arith;
   fresh = refl;
 }
@@ -248,7 +248,7 @@ not-silent : Reads silent → ⊥
 unfolding Reads silent answerTo set iv look outcome rows granted effectOf refused stateRows slotRows offerRows noKey recordRows field headLen macLen innerLen mostLength least sessionOf partialOf lengthOf totalOf numberOf startOf textEnd assocEnd nonceOf authOnly badSetting badReceiver isZeroKey blank soundWindow sound widthOf bit marked whole nearest Refusal.marks buildOf buildRows senderRows badSender formRows roomRows bodyLen assocEndFor placeRows numberRows wordOf marksOf windowOf seenBy isEmpty spread windowWidth
 not-silent h =
     let e : _≡_ {A = ℕ} 5 0 =
-    h (newSender set iv) (1 ∷ []) [] (replicate 40 0) [] (replicate 16 0) (newReceiver set iv) 0 can-build can-take (omega arith) refl refl in
+    h (newSender set iv) (1 ∷ []) [] (replicate 40 0) [] (replicate 16 0) (newReceiver set iv) 0 can-build can-take refl refl in
     omega arith
 
 -- ---- and the right ones do not
@@ -263,5 +263,5 @@ right-sender = sends-in-order
 
 right-build : Reads buildOut
 unfolding Reads
-right-build s app random out sealed mac r slot B R hs hc hm =
-    ap (λ (a : Answer). a .code) (read-back s app random out sealed mac r slot B R hs hc hm .offered)
+right-build s app random out sealed mac r slot B R hc hm =
+    ap (λ (a : Answer). a .code) (read-back s app random out sealed mac r slot B R hc hm .offered)

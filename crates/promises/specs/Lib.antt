@@ -4,4 +4,6 @@ pub mod Plain
 pub mod SendRun
 pub mod World
 pub mod Premises
+pub mod ReadBack
+pub mod Laid
 pub mod Barred

@@ -1,6 +1,9 @@
 pub mod Forms
 pub mod Sizes
 pub mod Writes
+pub mod Fronts
+pub mod Passes
+pub mod Shown
 pub mod Page
 pub mod Zeros
 pub mod Told
