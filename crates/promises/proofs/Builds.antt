@@ -11,25 +11,18 @@ use lib.Seq.{drop-at, getD-drop}
 use lib.Dec.{eqb}
 use borrow.Author.Tests.{eqb-true, le-ltb, ne-eqb}
 use Rattle.answers.specs.Table.{first, differ}
-use Rattle.answers.proofs.Tests.{by-cases}
 use Rattle.channel.specs.Sender.{senderRows, buildRows, built, buildOf, buildOut}
-use Rattle.channel.specs.declared.sender.Built.{Built}
 use Rattle.channel.specs.declared.sender.Sender.{Sender}
 use Rattle.record.specs.Setting.{authOnly}
 use Rattle.record.specs.Shape.{mostLength}
-use Rattle.record.specs.Write.{lengthFor, assocEndFor, totalFor, formRows, roomRows, frontOf}
-use Rattle.record.specs.declared.setting.Setting.{Setting}
+use Rattle.record.specs.Write.{lengthFor, totalFor, formRows, roomRows, frontOf}
 use Rattle.record.proofs.Sizes.{front-length}
 use Rattle.record.proofs.Fronts.{textFor, assocFor, assoc-there, text-there}
 use Rattle.promises.specs.Premises.{CanBuild}
 use Rattle.promises.specs.ReadBack.{builtOf, textOf}
+use Rattle.promises.proofs.Words.{auth-mode, sender-good}
 
 -- ---- it answers 0
-
--- mode 0 is the mode without a text
-pub auth-mode : (s : Setting) → authOnly s ≡ true → s .mode ≡ 0
-unfolding authOnly
-auth-mode s e = eqb-true _ _ e
 
 -- no check of Build refuses
 pub build-passes : (s : Sender) (app random out : List ℕ) → CanBuild s app random out → first (buildRows s (length app) (length random) (length out)) ≡ 0
@@ -40,7 +33,7 @@ build-passes s app random out B =
     let p : (authOnly t && differ (length random) 0) ≡ false = go (authOnly t) refl in
     let z : lengthFor t (length app) (length random) ≤ mostLength t = B .size in
     let m : totalFor t (length app) (length random) ≤ length out = omega (arith, B .room) in
-    rw (B .state, ne-eqb (s .next) (t .limit) (omega arith), p, le-ltb _ _ z, le-ltb _ _ m)
+    rw (sender-good s (B .state), ne-eqb (s .next) (t .limit) (omega arith), p, le-ltb _ _ z, le-ltb _ _ m)
   where
     go : (b : Bool) → authOnly (s .setting) ≡ b → (b && differ (length random) 0) ≡ false
     go true e = rw (B .padding (auth-mode (s .setting) e))

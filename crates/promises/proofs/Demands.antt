@@ -1,6 +1,6 @@
 -- The three demands, each sentence with its theorem. The definitions that they name are the contracts' own (crates answers, numbers, record,
 -- channel); those of runs are in Run, Plain, SendRun and World, the premises of demand 2 in Premises, what is barred in Barred. Assumes nothing.
-use Prim.Native.Nat.{ℕ, _-_, _^_, _<_}
+use Prim.Native.Nat.{ℕ, _-_}
 use mathlib.Core.Path.{_≡_, ap, _∙_}
 use mathlib.Core.Logic.{_≢_}
 use mathlib.Core.Bool.{Bool, true, false}
@@ -9,18 +9,16 @@ use lib.ListN.{length}
 use Rattle.answers.specs.Refusal.{authentic}
 use Rattle.answers.specs.Refusal as Refusal
 use Rattle.channel.specs.Receiver as Receivers
-use Rattle.channel.specs.Call.{Call, offer, settle, gaps, changeKey, dropOld, Answer, only, offers}
+use Rattle.channel.specs.Call.{Call, offer, settle, gaps, changeKey, dropOld, Answer, only}
 use Rattle.channel.specs.Receiver.{zeroReceiver, badReceiver, look, answerTo, stateAfter, openReceiver, offered, offerOf, settleOf, changeReceiver, dropOf}
 use Rattle.channel.specs.Sender.{zeroSender, badSender, openSender, buildOf, buildOut, changeSender, noBuild}
 use Rattle.channel.specs.View.{noKey, countAt}
 use Rattle.channel.specs.declared.receiver.Receiver.{Receiver}
-use Rattle.channel.specs.declared.sender.Built.{Built}
 use Rattle.channel.specs.declared.sender.Sender.{Sender}
 use Rattle.record.specs.Nonce.{zeros12}
 use Rattle.record.specs.Setting.{badSetting}
 use Rattle.record.specs.Shape.{macLen}
 use Rattle.record.specs.View.{viewOf}
-use Rattle.record.specs.Write.{textEndFor, assocEndFor}
 use Rattle.record.specs.declared.setting.Setting.{Setting}
 use Rattle.promises.specs.Tools.{Distinct}
 use Rattle.promises.specs.Run.{answersOf, reached, allMarked, pairOf, allHanded}

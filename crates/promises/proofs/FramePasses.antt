@@ -1,14 +1,14 @@
 -- Demand 2, the frame: a record of Build's bytes, a sealed text of the same length and as many bytes as a MAC has passes the checks of a
 -- receiver that is set the same, and its ends are Build's.
 -- Assumes nothing.
-use Prim.Native.Nat.{ℕ, _+_, _-_}
+use Prim.Native.Nat.{ℕ, _+_, _-_, _≤_}
 use mathlib.Core.Path.{_≡_, sym, ap, _∙_}
 use mathlib.Core.List.{List, _++_, append-assoc}
 use native.Mathlib.Omega.{arith}
 use lib.ListN.{length, take, drop, length-append}
-use lib.Seq.{take-at, drop-at}
+use lib.Seq.{take-add, take-at, drop-at}
 use Rattle.answers.specs.Table.{first}
-use Rattle.channel.specs.Sender.{built, buildOut}
+use Rattle.channel.specs.Sender.{buildOut}
 use Rattle.channel.specs.declared.sender.Built.{Built}
 use Rattle.channel.specs.declared.sender.Sender.{Sender}
 use Rattle.record.specs.Header.{headOf}
@@ -16,12 +16,23 @@ use Rattle.record.specs.Read.{recordRows}
 use Rattle.record.specs.Shape.{macLen, textEnd, assocEnd}
 use Rattle.record.specs.Write.{lengthFor, textEndFor, assocEndFor, totalFor}
 use Rattle.record.specs.declared.setting.Setting.{Setting}
-use Rattle.record.proofs.Fronts.{clearFor, assocFor, assoc-length, rest-length}
+use Rattle.record.proofs.Fronts.{ends-ordered, clearFor, assocFor, assoc-length, rest-length}
 use Rattle.record.proofs.Passes.{least-built, record-length, record-passes}
 use Rattle.record.proofs.Sizes.{same-text, same-assoc}
 use Rattle.promises.specs.Premises.{CanBuild}
-use Rattle.promises.specs.ReadBack.{builtOf, wire}
+use Rattle.promises.specs.ReadBack.{builtOf, plain, wire}
 use Rattle.promises.proofs.Builds.{build-passes, build-answers, buffer-assoc}
+
+-- with Build's own text in the text's place, the record is Build's buffer up to the end of the text, and the MAC
+pub wire-own : (s : Sender) (app random out mac : List ℕ) → CanBuild s app random out
+    → wire s app random out (plain s app random out) mac ≡ take (builtOf s app random out .text) (buildOut s app random out) ++ mac
+wire-own s app random out mac B =
+    let b = builtOf s app random out in
+    let x = buildOut s app random out in
+    let o : b .assoc ≤ b .text = rw (build-answers s app random out B) (ends-ordered (s .setting) (length app) (length random)) in
+    let z : b .assoc + (b .text - b .assoc) ≡ b .text = omega arith in
+    sym (append-assoc (take (b .assoc) x) (take (b .text - b .assoc) (drop (b .assoc) x)) mac)
+    ∙ ap (λ (y : List ℕ). y ++ mac) (sym (take-add (b .assoc) (b .text - b .assoc) x) ∙ ap (λ (k : ℕ). take k x) z)
 
 module _ (s : Sender) (app random out sealed mac : List ℕ) (B : CanBuild s app random out)
     (hc : length sealed ≡ builtOf s app random out .text - builtOf s app random out .assoc) (hm : length mac ≡ macLen (s .setting)) where

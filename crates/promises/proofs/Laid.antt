@@ -7,7 +7,6 @@ use mathlib.Core.List.{List, _++_, append-assoc}
 use native.Mathlib.Omega.{arith}
 use lib.ListN.{length, take, drop, length-append}
 use lib.Seq.{take-at, drop-at}
-use borrow.Author.Tests.{eq-eqb, ne-eqb}
 use Rattle.channel.specs.Sender.{buildOut}
 use Rattle.channel.specs.declared.sender.Built.{Built}
 use Rattle.channel.specs.declared.sender.Sender.{Sender}
@@ -16,7 +15,7 @@ use Rattle.octets.proofs.Endian.{field-at, little-length}
 use Rattle.record.specs.Header.{sessionOf, partialOf, lengthOf, headOf}
 use Rattle.record.specs.Setting.{authOnly}
 use Rattle.record.specs.Shape.{headLen, innerLen, mostLength}
-use Rattle.record.specs.Write.{lengthFor, textEndFor, bodyOf, frontOf}
+use Rattle.record.specs.Write.{lengthFor, bodyOf, frontOf}
 use Rattle.record.specs.declared.setting.Setting.{Setting}
 use Rattle.record.proofs.Fronts.{head-session, head-partial, head-total, body-clear, body-sealed, inner-holds}
 use Rattle.record.proofs.Page.{values}
@@ -24,17 +23,8 @@ use Rattle.record.proofs.Writes.{head-length}
 use Rattle.promises.specs.Laid.{Laid}
 use Rattle.promises.specs.Premises.{DeclaredSetting, CanBuild}
 use Rattle.promises.specs.ReadBack.{builtOf}
+use Rattle.promises.proofs.Words.{clear-mode, sealed-mode}
 use Rattle.promises.proofs.Builds.{build-passes, build-answers, buffer-is, unwritten}
-
--- ---- the modes
-
-clear-mode : (s : Setting) → s .mode ≡ 0 → authOnly s ≡ true
-unfolding authOnly
-clear-mode s m = eq-eqb _ _ m
-
-sealed-mode : (s : Setting) → s .mode ≡ 1 → authOnly s ≡ false
-unfolding authOnly
-sealed-mode s m = ne-eqb (s .mode) 0 (omega arith)
 
 -- the part of a list behind its first k
 behind : (out head part rest : List ℕ) (k : ℕ) → out ≡ head ++ (part ++ rest) → length head ≡ k → take (length part) (drop k out) ≡ part

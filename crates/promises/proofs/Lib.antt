@@ -5,6 +5,7 @@ pub mod Simulation
 pub mod Once
 pub mod Sends
 pub mod Refusals
+pub mod Words
 pub mod Builds
 pub mod Made
 pub mod EndToEnd

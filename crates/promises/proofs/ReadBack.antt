@@ -4,24 +4,22 @@ use Prim.Native.Nat.{ℕ, _-_}
 use mathlib.Core.Path.{_≡_, ap, _∙_}
 use mathlib.Core.List.{List, []}
 use lib.ListN.{length}
-use borrow.Author.Tests.{eq-eqb}
 use Rattle.channel.specs.Call.{Answer}
 use Rattle.channel.specs.declared.receiver.Receiver.{Receiver}
 use Rattle.channel.specs.declared.sender.Built.{Built}
 use Rattle.channel.specs.declared.sender.Sender.{Sender}
-use Rattle.record.specs.Setting.{authOnly}
 use Rattle.record.specs.Shape.{macLen}
 use Rattle.record.proofs.Fronts.{text-clear}
 use Rattle.promises.specs.Premises.{CanBuild, CanTake}
 use Rattle.promises.specs.ReadBack.{builtOf, plain, ReadBack}
+use Rattle.promises.proofs.Words.{clear-mode}
 use Rattle.promises.proofs.Builds.{build-answers}
 use Rattle.promises.proofs.FramePasses.{wire-total, wire-mac}
 use Rattle.promises.proofs.Settles.{plain-is, offer-answers, settle-answers, settle-shows}
 
 -- in mode 0 Build's text is empty
 pub no-text : (s : Sender) (app random out : List ℕ) → CanBuild s app random out → s .setting .mode ≡ 0 → plain s app random out ≡ []
-unfolding authOnly
-no-text s app random out B m = plain-is s app random out B ∙ text-clear (s .setting) app random (eq-eqb _ _ m)
+no-text s app random out B m = plain-is s app random out B ∙ text-clear (s .setting) app random (clear-mode (s .setting) m)
 
 -- the sender builds, any text of the text's length and any bytes of the MAC's length go over the wire, and the receiver reads it back
 pub read-back : (s : Sender) (app random out sealed mac : List ℕ) (r : Receiver) (slot : ℕ)

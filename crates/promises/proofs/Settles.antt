@@ -1,11 +1,11 @@
 -- Demand 2, the calls: Offer of a record that was built and sealed answers what Build did, Settle of it answers 0, and the view is the data.
 -- Assumes nothing.
-use Prim.Native.Nat.{ℕ, _-_, _≤_}
+use Prim.Native.Nat.{ℕ, _-_}
 use mathlib.Core.Path.{_≡_, refl, sym, ap, _∙_}
 use mathlib.Core.Logic.{inl, inr}
-use mathlib.Core.Bool.{Bool, true, false, cond}
+use mathlib.Core.Bool.{true, false}
 use mathlib.Core.List.{List, _++_}
-use lib.Dec.{T, eqb}
+use lib.Dec.{T}
 use lib.ListN.{length}
 use borrow.Author.Tests.{eq-eqb}
 use Rattle.answers.proofs.Table.{numbered, first-past}
@@ -13,10 +13,9 @@ use Rattle.answers.specs.Table.{first}
 use Rattle.channel.proofs.Look.{face-at}
 use Rattle.channel.proofs.Outcome.{answer-ok}
 use Rattle.channel.specs.Call.{Call, offer, settle, Answer, offers, settles}
-use Rattle.channel.specs.Receiver.{faceOf, look, answerTo}
+use Rattle.channel.specs.Receiver.{look, answerTo}
 use Rattle.channel.specs.Rules.{stateRows, slotRows, placeRowsAt, offerRows, cipherRows, markingRows, rows, granted}
-use Rattle.channel.specs.Sender.{built, buildOut}
-use Rattle.channel.specs.View.{Face, View, noKey, keyAt, countAt, numberAt}
+use Rattle.channel.specs.View.{Face, View, noKey, countAt, numberAt}
 use Rattle.channel.specs.declared.receiver.Receiver.{Receiver}
 use Rattle.channel.specs.declared.sender.Built.{Built}
 use Rattle.channel.specs.declared.sender.Sender.{Sender}
@@ -31,6 +30,7 @@ use Rattle.record.proofs.Passes.{inner-passes}
 use Rattle.record.proofs.Shown.{view-built}
 use Rattle.promises.specs.Premises.{CanBuild, keyIn, CanTake}
 use Rattle.promises.specs.ReadBack.{builtOf, wire, plain}
+use Rattle.promises.proofs.Words.{sender-good, receiver-good}
 use Rattle.promises.proofs.Builds.{build-passes, build-answers, buffer-text}
 use Rattle.promises.proofs.FramePasses.{frame-passes, wire-length, wire-text-end, wire-assoc-end, wire-assoc}
 use Rattle.promises.proofs.NumberFound.{number-found, number-passes}
@@ -45,7 +45,7 @@ has-key r slot s R = elim (R .there) [ inl z ↦ rw z | inr z ↦ rw (z .0, z .1
 
 not-bad : (r : Receiver) (slot : ℕ) (s : Sender) → CanTake r slot s → look r .bad ≡ false
 unfolding look
-not-bad r slot s R = R .state
+not-bad r slot s R = receiver-good r (R .state)
 
 -- the receiver is not State, and has the key that was asked for
 pub slot-passes : (r : Receiver) (slot : ℕ) (s : Sender) → CanTake r slot s → first (slotRows (look r) slot) ≡ 0
@@ -85,7 +85,7 @@ module _ (s : Sender) (app random out sealed mac : List ℕ) (B : CanBuild s app
   pub data-shown : viewOf (t .mode) (dataPlace t record-sent) (dataLen t record-sent text) record-sent text ≡ app
   data-shown =
       ap (λ (x : List ℕ). viewOf (t .mode) (dataPlace t record-sent) (dataLen t record-sent x) record-sent x) (plain-is s app random out B)
-      ∙ view-built t (s .next) record-sent app random (sender-parts s (B .state) .0) (B .size) (wire-assoc s app random out sealed mac B hc hm)
+      ∙ view-built t (s .next) record-sent app random (sender-parts s (sender-good s (B .state)) .0) (B .size) (wire-assoc s app random out sealed mac B hc hm)
 
   module _ (r : Receiver) (slot : ℕ) (R : CanTake r slot s) where
     abbrev v : View

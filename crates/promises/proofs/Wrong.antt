@@ -1,6 +1,6 @@
 -- The theorems bite: for each wrong receiver or sender a closed run on which T1, T2, T3 or demand 2 fails for it, by computation.
 -- Assumes nothing.
-use Prim.Native.Nat.{ℕ, _+_, _-_, _^_, _<_}
+use Prim.Native.Nat.{ℕ, _+_, _-_}
 use mathlib.Core.Path.{_≡_, refl, ap}
 use mathlib.Core.Logic.{inl}
 use mathlib.Core.Bool.{true, cond}
@@ -9,6 +9,7 @@ use native.Mathlib.Omega.{arith}
 use lib.Dec.{leb, eqb}
 use lib.ListN.{length, replicate, getD}
 use Rattle.answers.specs.Refusal as Refusal
+use Rattle.channel.proofs.Decisions.{bad-receiver, bad-sender}
 use Rattle.channel.specs.Call.{Call, offer, settle, gaps, changeKey, Answer, only, Effect, stay, marking, turning, dropping, Outcome}
 use Rattle.channel.specs.Key.{isZeroKey}
 use Rattle.channel.specs.Receiver.{newReceiver, badReceiver, look, change, answerTo, openReceiver}
@@ -17,6 +18,7 @@ use Rattle.channel.specs.Sender.{newSender, badSender, senderRows, buildRows, c
 use Rattle.channel.specs.View.{View, noKey}
 use Rattle.channel.specs.declared.receiver.Receiver.{Receiver}
 use Rattle.channel.specs.declared.sender.Sender.{Sender}
+use Rattle.numbers.proofs.Laws.{typed-none}
 use Rattle.numbers.specs.Contract.{widthOf, soundWindow, after, windowOf, seenBy, isEmpty}
 use Rattle.numbers.specs.Memory.{member, nextOf}
 use Rattle.numbers.specs.Number.{whole, nearest, count, gapCount, numberRows}
@@ -230,12 +232,12 @@ silent s app random out = out
 
 can-build : CanBuild (newSender set iv) (1 ∷ []) [] (replicate 40 0)
 unfolding set badSender badSetting headLen macLen mostLength bodyLen authOnly
-can-build = record { declared = record { session = omega arith }; state = refl; left = omega arith; padding = λ h. refl; size = omega arith; room = omega arith }
+can-build = record { declared = record { session = omega arith }; state = bad-sender (newSender set iv) .fails refl; left = omega arith; padding = λ h. refl; size = omega arith; room = omega arith }
 
 can-take : CanTake (newReceiver set iv) 0 (newSender set iv)
 unfolding set badReceiver badSetting isZeroKey blank soundWindow sound widthOf marked wordOf marksOf windowOf seenBy isEmpty spread windowWidth placeRows numberRows
 can-take = record {
-  state = refl;
+  state = bad-receiver (newReceiver set iv) (record { iv = refl; marks = typed-none }) .fails refl;
   alike = refl;
   there = inl refl;
   iv = refl;

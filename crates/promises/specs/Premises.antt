@@ -1,5 +1,4 @@
--- Demand 2's premises, in page 01's words: no table of checks is named in them. The names that stand for page 01's numbers have them by
--- record's `values`: mostLength is 65,535, headLen 8, macLen 16, and the width 64.
+-- Demand 2's premises, in page 01's words: no test and no table of checks is named in them but which numbers are marked.
 -- Assumes nothing.
 use Prim.Native.Nat.{ℕ, _+_, _-_, _^_, _≤_, _<_}
 use mathlib.Core.Path.{_≡_}
@@ -7,15 +6,15 @@ use mathlib.Core.Logic.{_⊎_}
 use mathlib.Core.Bool.{true, false}
 use mathlib.Core.List.{List}
 use lib.ListN.{length}
-use Rattle.channel.specs.Receiver.{badReceiver, keyOf}
-use Rattle.channel.specs.Sender.{badSender}
+use Rattle.channel.specs.Reasons.{BadReceiver, BadSender}
+use Rattle.channel.specs.Receiver.{keyOf}
 use Rattle.channel.specs.declared.key.Key.{Key}
 use Rattle.channel.specs.declared.receiver.Receiver.{Receiver}
 use Rattle.channel.specs.declared.sender.Sender.{Sender}
 use Rattle.numbers.specs.Contract.{widthOf, seenBy}
 use Rattle.numbers.specs.Whole.{Reached}
 use Rattle.record.specs.Setting.{ruleOf}
-use Rattle.record.specs.Shape.{headLen, mostLength}
+use Rattle.record.specs.Shape.{headLen, macLen, mostLength}
 use Rattle.record.specs.Write.{lengthFor}
 use Rattle.record.specs.declared.setting.Setting.{Setting}
 
@@ -28,7 +27,7 @@ pub record DeclaredSetting (s : Setting) : Type 0 where
 pub record CanBuild (s : Sender) (app random out : List ℕ) : Type 0 where
   pub declared : DeclaredSetting (s .setting)
   -- it is not State
-  pub state : badSender s ≡ false
+  pub state : BadSender s → ⊥
   -- its next number is usable
   pub left : s .next < s .setting .limit
   -- no random bytes in mode 0
@@ -47,7 +46,7 @@ keyIn r slot = keyOf r slot
 -- n is the sender's next number, E that of the key in the slot
 pub record CanTake (r : Receiver) (slot : ℕ) (s : Sender) : Type 0 where
   -- it is not State
-  pub state : badReceiver r ≡ false
+  pub state : BadReceiver r → ⊥
   -- it is set as the sender is
   pub alike : r .setting ≡ s .setting
   -- slot 0, or an old key is held
@@ -60,3 +59,14 @@ pub record CanTake (r : Receiver) (slot : ℕ) (s : Sender) : Type 0 where
   pub young : keyIn r slot .window .next - s .next ≤ widthOf (ruleOf (r .setting))
   -- n is not marked
   pub fresh : seenBy (keyIn r slot .window) (s .next) ≡ false
+
+-- ---- page 01's numbers
+
+-- what the names above stand for: the largest Length, the lengths of header and MAC, the window's width, and Length in mode 0 and in mode 1
+pub record PageNumbers (s : Setting) : Type 0 where
+  pub most : mostLength s ≡ 65535
+  pub head : headLen s ≡ 8
+  pub mac : macLen s ≡ 16
+  pub width : widthOf (ruleOf s) ≡ 64
+  pub clear : s .mode ≡ 0 → (p q : ℕ) → lengthFor s p q ≡ p + 16
+  pub sealed : s .mode ≡ 1 → (p q : ℕ) → lengthFor s p q ≡ 2 + p + q + 16

@@ -9,7 +9,7 @@ use lib.ListN.{length, take, drop, length-append}
 use lib.Seq.{take-at, drop-at}
 use Rattle.numbers.specs.Whole.{Reached}
 use Rattle.numbers.proofs.Nearest.{near-exactly}
-use Rattle.octets.specs.Fields.{field, little}
+use Rattle.octets.specs.Fields.{little}
 use Rattle.octets.proofs.Endian.{field-behind, field-little, field-at}
 use Rattle.record.specs.declared.setting.Setting.{Setting}
 use Rattle.record.specs.Setting.{authOnly}
@@ -61,6 +61,15 @@ unfolding bodyLen innerLen mostLength
 inner-holds s p q a h = let g : 2 + p + q + macLen s ≤ 65535 = rw a at h in omega arith
 
 -- ---- the parts of the front
+
+-- the associated data ends no later than the text
+pub ends-ordered : (s : Setting) (p q : ℕ) → assocEndFor s p q ≤ textEndFor s p q
+unfolding assocEndFor
+ends-ordered s p q = go (authOnly s)
+  where
+    go : (b : Bool) → cond b (textEndFor s p q) (headLen s) ≤ textEndFor s p q
+    go true = omega arith
+    go false = omega arith
 
 -- what goes in the clear behind the header: the data in mode 0
 unfoldable pub clearFor : Setting → List ℕ → List ℕ

@@ -1,11 +1,10 @@
 -- What passes the checks of a record: a header with as many bytes behind it as its Length says, and a number that is none of Spent, Old and Repeat.
 -- Assumes nothing.
 use Prim.Native.Nat.{ℕ, _+_, _-_, _^_, _≤_, _<_}
-use mathlib.Core.Bool.{Bool, true, false, not, cond, _&&_}
+use mathlib.Core.Bool.{Bool, true, false, cond}
 use mathlib.Core.List.{List, [], _++_}
 use mathlib.Core.Path.{_≡_, refl, sym, ap, _∙_}
 use native.Mathlib.Omega.{arith}
-use lib.Dec.{ltb}
 use lib.ListN.{length, length-append}
 use borrow.Author.Tests.{le-ltb, lt-leb, eq-eqb}
 use Rattle.answers.specs.Table.{first}

@@ -1,7 +1,7 @@
 -- What the view shows of a record that was built: its data.
 -- Assumes nothing.
 use Prim.Native.Nat.{ℕ, _+_, _-_, _≤_}
-use mathlib.Core.Bool.{Bool, true, false, cond}
+use mathlib.Core.Bool.{Bool, true, false}
 use mathlib.Core.List.{List, [], _++_, append-assoc}
 use mathlib.Core.Path.{_≡_, refl, sym, ap, _∙_}
 use native.Mathlib.Omega.{arith}
@@ -10,7 +10,7 @@ use lib.ListN.{length, take, drop, length-append, take-append-drop}
 use lib.Seq.{take-at, drop-at, length-take-le}
 use borrow.Author.Tests.{ltb-false, eqb-false, le-leb, eq-eqb}
 use Rattle.answers.proofs.Tests.{or-neither}
-use Rattle.octets.specs.Fields.{field, little}
+use Rattle.octets.specs.Fields.{little}
 use Rattle.octets.specs.Parts.{part}
 use Rattle.octets.proofs.Endian.{field-at, little-length}
 use Rattle.record.specs.declared.setting.Setting.{Setting}
@@ -20,7 +20,7 @@ use Rattle.record.specs.Shape.{headLen, macLen, innerLen, mostLength, st
 use Rattle.record.specs.View.{viewOf}
 use Rattle.record.specs.Write.{lengthFor}
 use Rattle.record.proofs.Writes.{head-length}
-use Rattle.record.proofs.Fronts.{inner-holds, clearFor, textFor, assocFor, clear-all, text-sealed}
+use Rattle.record.proofs.Fronts.{inner-holds, textFor, assocFor, clear-all, text-sealed}
 
 -- the part of a list behind its first h
 pub part-behind : (head app rest : List ℕ) (h : ℕ) → length head ≡ h → part (head ++ (app ++ rest)) h (length app) ≡ app
