@@ -17,10 +17,11 @@ use Rattle.record.specs.Setting.{authOnly}
 use Rattle.record.specs.Shape.{mostLength}
 use Rattle.record.specs.Write.{lengthFor, totalFor, formRows, roomRows, frontOf}
 use Rattle.record.proofs.Sizes.{front-length}
+use Rattle.record.proofs.Modes.{auth-mode}
 use Rattle.record.proofs.Fronts.{textFor, assocFor, assoc-there, text-there}
 use Rattle.promises.specs.Premises.{CanBuild}
 use Rattle.promises.specs.ReadBack.{builtOf, textOf}
-use Rattle.promises.proofs.Words.{auth-mode, sender-good}
+use Rattle.promises.proofs.Words.{sender-good}
 
 -- ---- it answers 0
 

@@ -1,98 +1,23 @@
 -- Demand 2, the layout: what Build leaves in its buffer is page 01's table, offset by offset.
 -- Assumes nothing.
-use Prim.Native.Nat.{ℕ, _+_, _%_, _≤_}
-use mathlib.Core.Path.{_≡_, refl, ap, sym, _∙_}
-use mathlib.Core.Bool.{true, false}
-use mathlib.Core.List.{List, _++_, append-assoc}
+use Prim.Native.Nat.{ℕ, _+_}
+use mathlib.Core.Path.{_≡_, ap, _∙_}
+use mathlib.Core.List.{List}
 use native.Mathlib.Omega.{arith}
-use lib.ListN.{length, take, drop, length-append}
-use lib.Seq.{take-at, drop-at}
+use lib.ListN.{length, drop}
 use Rattle.channel.specs.Sender.{buildOut}
 use Rattle.channel.specs.declared.sender.Built.{Built}
 use Rattle.channel.specs.declared.sender.Sender.{Sender}
-use Rattle.octets.specs.Fields.{field, little}
-use Rattle.octets.proofs.Endian.{field-at, little-length}
-use Rattle.record.specs.Header.{sessionOf, partialOf, lengthOf, headOf}
-use Rattle.record.specs.Setting.{authOnly}
-use Rattle.record.specs.Shape.{headLen, innerLen, mostLength}
-use Rattle.record.specs.Write.{lengthFor, bodyOf, frontOf}
+use Rattle.octets.specs.Fields.{field}
+use Rattle.record.specs.Write.{lengthFor, frontOf}
 use Rattle.record.specs.declared.setting.Setting.{Setting}
-use Rattle.record.proofs.Fronts.{head-session, head-partial, head-total, body-clear, body-sealed, inner-holds}
+use Rattle.record.proofs.Modes.{clear-mode, sealed-mode}
+use Rattle.record.proofs.Offsets.{session-row, low-row, length-row, inner-row, data-clear-row, data-sealed-row, random-row}
 use Rattle.record.proofs.Page.{values}
-use Rattle.record.proofs.Writes.{head-length}
 use Rattle.promises.specs.Laid.{Laid}
-use Rattle.promises.specs.Premises.{DeclaredSetting, CanBuild}
+use Rattle.promises.specs.Premises.{CanBuild}
 use Rattle.promises.specs.ReadBack.{builtOf}
-use Rattle.promises.proofs.Words.{clear-mode, sealed-mode}
 use Rattle.promises.proofs.Builds.{build-passes, build-answers, buffer-is, unwritten}
-
--- the part of a list behind its first k
-behind : (out head part rest : List ℕ) (k : ℕ) → out ≡ head ++ (part ++ rest) → length head ≡ k → take (length part) (drop k out) ≡ part
-behind out head part rest k e l = rw (e, drop-at head (part ++ rest) k l) (take-at part rest (length part) refl)
-
--- ---- a buffer that starts with the front of a record
-
-module _ (s : Setting) (n : ℕ) (app random out tail : List ℕ) (e : out ≡ frontOf s n app random ++ tail) where
-  abbrev len : ℕ
-  len = lengthFor s (length app) (length random)
-
-  abbrev head : List ℕ
-  head = headOf s n len
-
-  abbrev inner : List ℕ
-  inner = little (innerLen s) (length app)
-
-  starts : out ≡ head ++ (bodyOf s app random ++ tail)
-  unfolding frontOf
-  starts = e ∙ append-assoc head (bodyOf s app random) tail
-
-  -- the header's fields
-  session-row : DeclaredSetting s → field out 0 4 ≡ s .session
-  unfolding sessionOf
-  session-row d = rw starts (head-session s n len (bodyOf s app random ++ tail) (d .session))
-
-  low-row : field out 4 2 ≡ n % 65536
-  unfolding partialOf
-  low-row = rw starts (head-partial s n len (bodyOf s app random ++ tail))
-
-  length-row : len ≤ mostLength s → field out 6 2 ≡ len
-  unfolding lengthOf
-  length-row h = rw starts (head-total s n len (bodyOf s app random ++ tail) h)
-
-  -- mode 0
-  data-clear-row : authOnly s ≡ true → take (length app) (drop (headLen s) out) ≡ app
-  data-clear-row a =
-      behind out head app tail (headLen s) (starts ∙ ap (λ (x : List ℕ). head ++ (x ++ tail)) (body-clear s app random a)) (head-length s n len)
-
-  -- mode 1
-  module _ (a : authOnly s ≡ false) where
-    sealed-parts : out ≡ head ++ (inner ++ (app ++ (random ++ tail)))
-    sealed-parts =
-        starts
-        ∙ ap (λ (x : List ℕ). head ++ x)
-        (ap (λ (x : List ℕ). x ++ tail) (body-sealed s app random a) ∙ append-assoc inner (app ++ random) tail
-        ∙ ap (λ (x : List ℕ). inner ++ x) (append-assoc app random tail))
-
-    inner-length : length (head ++ inner) ≡ headLen s + innerLen s
-    inner-length = length-append head inner ∙ omega (arith, head-length s n len, little-length (innerLen s) (length app))
-
-    inner-row : len ≤ mostLength s → field out (headLen s) (innerLen s) ≡ length app
-    inner-row h =
-        rw (sealed-parts, ← (head-length s n len))
-        (field-at head (innerLen s) (length app) (app ++ (random ++ tail)) (inner-holds s (length app) (length random) a h))
-
-    data-sealed-row : take (length app) (drop (headLen s + innerLen s) out) ≡ app
-    data-sealed-row =
-        behind out (head ++ inner) app (random ++ tail) (headLen s + innerLen s)
-        (sealed-parts ∙ sym (append-assoc head inner (app ++ (random ++ tail)))) inner-length
-
-    random-row : take (length random) (drop (headLen s + innerLen s + length app) out) ≡ random
-    random-row =
-        behind out ((head ++ inner) ++ app) random tail (headLen s + innerLen s + length app)
-        (sealed-parts ∙ sym (append-assoc head inner (app ++ (random ++ tail))) ∙ sym (append-assoc (head ++ inner) app (random ++ tail)))
-        (length-append (head ++ inner) app ∙ omega (arith, inner-length))
-
--- ---- Build
 
 module _ (s : Sender) (app random out : List ℕ) (B : CanBuild s app random out) where
   abbrev t : Setting
@@ -117,7 +42,7 @@ module _ (s : Sender) (app random out : List ℕ) (B : CanBuild s app random out
       let e = buffer-is s app random out (build-passes s app random out B) in
       let len : field x 6 2 ≡ lengthFor t (length app) (length random) = length-row t (s .next) app random x y e (B .size) in
       record {
-        session = session-row t (s .next) app random x y e (B .declared);
+        session = session-row t (s .next) app random x y e (B .declared .session);
         low = low-row t (s .next) app random x y e;
         len-clear = λ m. len ∙ v .clear (clear-mode t m) (length app) (length random);
         len-sealed = λ m. len ∙ v .sealed (sealed-mode t m) (length app) (length random);

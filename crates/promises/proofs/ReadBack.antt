@@ -9,10 +9,10 @@ use Rattle.channel.specs.declared.receiver.Receiver.{Receiver}
 use Rattle.channel.specs.declared.sender.Built.{Built}
 use Rattle.channel.specs.declared.sender.Sender.{Sender}
 use Rattle.record.specs.Shape.{macLen}
+use Rattle.record.proofs.Modes.{clear-mode}
 use Rattle.record.proofs.Fronts.{text-clear}
 use Rattle.promises.specs.Premises.{CanBuild, CanTake}
 use Rattle.promises.specs.ReadBack.{builtOf, plain, ReadBack}
-use Rattle.promises.proofs.Words.{clear-mode}
 use Rattle.promises.proofs.Builds.{build-answers}
 use Rattle.promises.proofs.FramePasses.{wire-total, wire-mac}
 use Rattle.promises.proofs.Settles.{plain-is, offer-answers, settle-answers, settle-shows}

@@ -1,6 +1,6 @@
 -- Demand 2, the calls: Offer of a record that was built and sealed answers what Build did, Settle of it answers 0, and the view is the data.
 -- Assumes nothing.
-use Prim.Native.Nat.{ℕ, _-_}
+use Prim.Native.Nat.{ℕ, _-_, _≤_}
 use mathlib.Core.Path.{_≡_, refl, sym, ap, _∙_}
 use mathlib.Core.Logic.{inl, inr}
 use mathlib.Core.Bool.{true, false}
@@ -15,13 +15,14 @@ use Rattle.channel.proofs.Outcome.{answer-ok}
 use Rattle.channel.specs.Call.{Call, offer, settle, Answer, offers, settles}
 use Rattle.channel.specs.Receiver.{look, answerTo}
 use Rattle.channel.specs.Rules.{stateRows, slotRows, placeRowsAt, offerRows, cipherRows, markingRows, rows, granted}
-use Rattle.channel.specs.View.{Face, View, noKey, countAt, numberAt}
+use Rattle.channel.specs.View.{Face, View, noKey, keyAt, countAt, numberAt}
 use Rattle.channel.specs.declared.receiver.Receiver.{Receiver}
 use Rattle.channel.specs.declared.sender.Built.{Built}
 use Rattle.channel.specs.declared.sender.Sender.{Sender}
-use Rattle.numbers.specs.Contract.{seenBy}
+use Rattle.numbers.specs.Contract.{widthOf, seenBy}
 use Rattle.numbers.specs.Number.{numberRows}
 use Rattle.record.specs.Read.{recordRows, placeRows}
+use Rattle.record.specs.Setting.{ruleOf}
 use Rattle.record.specs.Shape.{macLen, plainLen, dataPlace, dataLen, innerBad}
 use Rattle.record.specs.View.{viewOf}
 use Rattle.record.specs.declared.setting.Setting.{Setting}
@@ -100,8 +101,9 @@ module _ (s : Sender) (app random out sealed mac : List ℕ) (B : CanBuild s app
 
     place-none : first (placeRowsAt v record-sent slot) ≡ 0
     place-none =
-        rw (sets, face-at r slot)
-        (number-passes s app random out sealed mac B hc hm (keyIn r slot .window .next) (seenBy (keyIn r slot .window)) (R .reach) (rw (R .alike) at (R .young)) (R .fresh))
+        let w = keyIn r slot .window in
+        let y : w .next - s .next ≤ widthOf (ruleOf t) = rw (R .alike) at (R .young) in
+        rw (sets, face-at r slot) (number-passes s app random out sealed mac B hc hm (w .next) (seenBy w) (R .reach) y (R .fresh))
 
     offer-none : first (offerRows v record-sent slot) ≡ 0
     unfolding offerRows
@@ -116,8 +118,11 @@ module _ (s : Sender) (app random out sealed mac : List ℕ) (B : CanBuild s app
         ≡ offers (countAt v slot) (s .next) (builtOf s app random out .nonce) (builtOf s app random out .assoc) (builtOf s app random out .text)
     unfolding rows granted
     offer-answers =
+        let i : keyAt v slot .iv ≡ s .iv = ap (λ (f : Face). f .iv) (face-at r slot) ∙ R .iv in
+        let a = wire-assoc-end s app random out sealed mac B hc hm in
+        let x = wire-text-end s app random out sealed mac B hc hm in
         answer-ok r (offer record-sent slot) offer-none
-        ∙ rw (number-is, sets, ap (λ (f : Face). f .iv) (face-at r slot) ∙ R .iv, wire-assoc-end s app random out sealed mac B hc hm, wire-text-end s app random out sealed mac B hc hm)
+        ∙ rw (number-is, sets, i, a, x)
         (ap (λ (b : Built). offers (countAt v slot) (s .next) (b .nonce) (b .assoc) (b .text)) (sym (build-answers s app random out B)))
 
     -- ---- Settle, with Offer's count and number, yes and Build's text

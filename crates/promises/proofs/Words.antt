@@ -1,10 +1,8 @@
--- Page 01's words for what the definitions test: the two modes, a state that is not State, and the numbers that the names stand for.
+-- Page 01's words in demand 2's premises: a state that is not State passes the test, and the names have page 01's numbers.
 -- Assumes nothing.
 use mathlib.Core.Bool.{Bool, true, false, not, _&&_, _||_}
 use mathlib.Core.Logic.{inl, inr}
 use mathlib.Core.Path.{_≡_, refl, ap, _∙_}
-use native.Mathlib.Omega.{arith}
-use borrow.Author.Tests.{eqb-true, eq-eqb, ne-eqb}
 use Rattle.answers.proofs.Tests.{true-not-false, tells-true, tells-eq, tells-and}
 use Rattle.answers.specs.Reasons.{Tells}
 use Rattle.channel.proofs.Decisions.{bad-sender}
@@ -19,29 +17,13 @@ use Rattle.numbers.proofs.Told.{unsound-told}
 use Rattle.numbers.specs.Contract.{windowOf, isEmpty}
 use Rattle.numbers.specs.Word.{wordOf, marksOf}
 use Rattle.octets.specs.Fields.{blank}
+use Rattle.record.proofs.Modes.{clear-mode, sealed-mode}
 use Rattle.record.proofs.Page.{values}
 use Rattle.record.proofs.Told.{open-told}
 use Rattle.record.specs.Reasons.{BadSetting}
-use Rattle.record.specs.Setting.{authOnly, badSetting, openRows, ruleOf}
+use Rattle.record.specs.Setting.{badSetting, openRows, ruleOf}
 use Rattle.record.specs.declared.setting.Setting.{Setting}
 use Rattle.promises.specs.Premises.{PageNumbers}
-
--- ---- the modes
-
--- mode 0 is message authentication only
-pub clear-mode : (s : Setting) → s .mode ≡ 0 → authOnly s ≡ true
-unfolding authOnly
-clear-mode s m = eq-eqb _ _ m
-
--- and no other mode is
-pub auth-mode : (s : Setting) → authOnly s ≡ true → s .mode ≡ 0
-unfolding authOnly
-auth-mode s e = eqb-true _ _ e
-
--- mode 1 is encryption and authentication
-pub sealed-mode : (s : Setting) → s .mode ≡ 1 → authOnly s ≡ false
-unfolding authOnly
-sealed-mode s m = ne-eqb (s .mode) 0 (omega arith)
 
 -- ---- not State
 

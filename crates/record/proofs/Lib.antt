@@ -1,7 +1,9 @@
 pub mod Forms
 pub mod Sizes
 pub mod Writes
+pub mod Modes
 pub mod Fronts
+pub mod Offsets
 pub mod Passes
 pub mod Shown
 pub mod Page

@@ -43,7 +43,10 @@ module _ (s : Setting) (n len : ℕ) (rest : List ℕ) (lr : length rest ≡ len
   record-passes hs hl hm =
       let r : List ℕ = headOf s n len ++ rest in
       let l : lengthOf s r ≡ len = head-total s n len rest hl in
-      rw (le-ltb (length r) (headLen s) (omega (arith, record-length)), eq-eqb _ _ (head-session s n len rest hs), eq-eqb (length r) (headLen s + lengthOf s r) (rw l record-length), le-ltb (lengthOf s r) (least s) (rw l hm))
+      let long : headLen s ≤ length r = omega (arith, record-length) in
+      let exact : length r ≡ headLen s + lengthOf s r = rw l record-length in
+      let big : least s ≤ lengthOf s r = rw l hm in
+      rw (le-ltb _ _ long, eq-eqb _ _ (head-session s n len rest hs), eq-eqb _ _ exact, le-ltb _ _ big)
 
 -- ---- 8 to 10
 

@@ -28,8 +28,9 @@ unfolding part
 part-behind head app rest h e =
     let l : length (head ++ (app ++ rest)) ≡ h + (length app + length rest) =
     length-append head (app ++ rest) ∙ omega (arith, length-append app rest) in
-    rw (le-leb h (length (head ++ (app ++ rest))) (omega arith), le-leb (length app) (length (head ++ (app ++ rest)) - h) (omega arith), drop-at head (app ++ rest) h e)
-    (take-at app rest (length app) refl)
+    let starts : h ≤ length (head ++ (app ++ rest)) = omega arith in
+    let fits : length app ≤ length (head ++ (app ++ rest)) - h = omega arith in
+    rw (le-leb _ _ starts, le-leb _ _ fits, drop-at head (app ++ rest) h e) (take-at app rest (length app) refl)
 
 -- mode 0: a record whose associated data is a header and the data
 pub view-clear : (s : Setting) (r plain head app : List ℕ) → authOnly s ≡ true → length head ≡ headLen s → take (assocEnd s r) r ≡ head ++ app
