@@ -1,6 +1,6 @@
 -- The three demands, each sentence with its theorem. The definitions that they name are the contracts' own (crates answers, numbers, record,
 -- channel); those of runs are in Run, Plain, SendRun and World, the premises of demand 2 in Premises, what is barred in Barred. Assumes nothing.
-use Prim.Native.Nat.{ℕ, _-_, _^_, _<_}
+use Prim.Native.Nat.{ℕ, _-_}
 use mathlib.Core.Path.{_≡_, ap, _∙_}
 use mathlib.Core.Logic.{_≢_}
 use mathlib.Core.Bool.{Bool, true, false}
@@ -9,25 +9,25 @@ use lib.ListN.{length}
 use Rattle.answers.specs.Refusal.{authentic}
 use Rattle.answers.specs.Refusal as Refusal
 use Rattle.channel.specs.Receiver as Receivers
-use Rattle.channel.specs.Call.{Call, offer, settle, gaps, changeKey, dropOld, Answer, only, offers}
+use Rattle.channel.specs.Call.{Call, offer, settle, gaps, changeKey, dropOld, Answer, only}
 use Rattle.channel.specs.Receiver.{zeroReceiver, badReceiver, look, answerTo, stateAfter, openReceiver, offered, offerOf, settleOf, changeReceiver, dropOf}
 use Rattle.channel.specs.Sender.{zeroSender, badSender, openSender, buildOf, buildOut, changeSender, noBuild}
 use Rattle.channel.specs.View.{noKey, countAt}
 use Rattle.channel.specs.declared.receiver.Receiver.{Receiver}
-use Rattle.channel.specs.declared.sender.Built.{Built}
 use Rattle.channel.specs.declared.sender.Sender.{Sender}
 use Rattle.record.specs.Nonce.{zeros12}
 use Rattle.record.specs.Setting.{badSetting}
 use Rattle.record.specs.Shape.{macLen}
 use Rattle.record.specs.View.{viewOf}
-use Rattle.record.specs.Write.{textEndFor, assocEndFor}
 use Rattle.record.specs.declared.setting.Setting.{Setting}
 use Rattle.promises.specs.Tools.{Distinct}
 use Rattle.promises.specs.Run.{answersOf, reached, allMarked, pairOf, allHanded}
 use Rattle.promises.specs.Plain.{openPlain, plainAnswers}
 use Rattle.promises.specs.SendRun.{Send, used, under, from}
 use Rattle.promises.specs.World.{Step, start, Each, handedIn, HandsSealed, Cipher, HonestCall}
-use Rattle.promises.specs.Premises.{CanBuild, CanTake, sealedRecord, textOf}
+use Rattle.promises.specs.Premises.{CanBuild, CanTake}
+use Rattle.promises.specs.ReadBack.{builtOf, ReadBack}
+use Rattle.promises.specs.Laid.{Laid}
 use Rattle.promises.specs.Barred.{Barred}
 use Rattle.promises.proofs.Refusals as Refusals
 use Rattle.promises.proofs.Marking as Marking
@@ -37,8 +37,8 @@ use Rattle.promises.proofs.Once as Once
 use Rattle.promises.proofs.Sends as Sends
 use Rattle.promises.proofs.EndToEnd as EndToEnd
 use Rattle.promises.proofs.Replay as Replay
-use Rattle.promises.proofs.Trip as Trip
-use Rattle.promises.proofs.Laid as Laid
+use Rattle.promises.proofs.ReadBack as Back
+use Rattle.promises.proofs.Laid as Layout
 
 -- ======== 1. Every entry point answers for every state value, record, length and key slot, and nothing is presumed checked. A refusal has its
 -- number, hands out no data, writes to no buffer and keeps the state, but for the one case in the table where an authentic record's number is
@@ -131,59 +131,17 @@ zeros-are-state = (Refusals.zero-state, Refusals.zero-build, Refusals.zero-turn)
 -- and that passes its checks.
 
 -- The layout, offset by offset.
-pub layout : (s : Sender) (app random out : List ℕ) → CanBuild s app random out → s .setting .session < 2 ^ 32
-    → Laid.Laid (s .setting) (s .next) app random out (buildOut s app random out)
-layout = Laid.laid
+pub layout : (s : Sender) (app random out : List ℕ) → CanBuild s app random out
+    → Laid (s .setting) (s .next) app random out (buildOut s app random out)
+layout = Layout.laid
 
 -- The way through: the record is what Build left in its buffer up to the end of the associated data, any text of the text's length sealed
 -- in its place, and any 16 bytes (Page has the values of the names).
-abbrev pub builtOf : Sender → List ℕ → List ℕ → List ℕ → Built
-builtOf s app random out = buildOf s (length app) (length random) (length out)
-
-abbrev pub wire : Sender → List ℕ → List ℕ → List ℕ → List ℕ → List ℕ → List ℕ
-wire s app random out sealed mac = sealedRecord (builtOf s app random out) (buildOut s app random out) sealed mac
-
--- Build's text: empty in mode 0
-abbrev pub plain : Sender → List ℕ → List ℕ → List ℕ → List ℕ
-plain s app random out = textOf (builtOf s app random out) (buildOut s app random out)
-
--- Settle, with Offer's count and number, the cipher's yes and Build's text
-abbrev pub settled : Sender → List ℕ → List ℕ → List ℕ → List ℕ → List ℕ → Receiver → ℕ → Answer
-settled s app random out sealed mac r slot =
-    let o = answerTo r (offer (wire s app random out sealed mac) slot) in
-    answerTo r (settle (wire s app random out sealed mac) slot (o .count) (o .number) true (plain s app random out))
-
-pub record ReadBack (s : Sender) (app random out sealed mac : List ℕ) (r : Receiver) (slot : ℕ) : Type 0 where
-  -- Build answers 0 with the next number
-  pub builds : builtOf s app random out .answer ≡ 0
-  pub number : builtOf s app random out .number ≡ s .next
-  pub total : length (wire s app random out sealed mac) ≡ builtOf s app random out .total
-  -- Offer answers 0 with that number, Build's nonce and both ends
-  pub offered : answerTo r (offer (wire s app random out sealed mac) slot)
-      ≡ offers (countAt (look r) slot) (s .next) (builtOf s app random out .nonce) (builtOf s app random out .assoc) (builtOf s app random out .text)
-  -- Settle answers 0, and the view of its answer is the data
-  pub settled-it : settled s app random out sealed mac r slot .code ≡ 0
-  pub shown : viewOf (s .setting .mode) (settled s app random out sealed mac r slot .place) (settled s app random out sealed mac r slot .length)
-      (wire s app random out sealed mac) (plain s app random out) ≡ app
-
 pub read-back : (s : Sender) (app random out sealed mac : List ℕ) (r : Receiver) (slot : ℕ)
-    → CanBuild s app random out → CanTake r slot s → s .setting .session < 2 ^ 32
+    → CanBuild s app random out → CanTake r slot s
     → length sealed ≡ builtOf s app random out .text - builtOf s app random out .assoc → length mac ≡ macLen (s .setting)
     → ReadBack s app random out sealed mac r slot
-read-back s app random out sealed mac r slot B R hs hc hm =
-    let b = Trip.build-answers s app random out B in
-    let hc′ : length sealed ≡ textEndFor (s .setting) (length app) (length random) - assocEndFor (s .setting) (length app) (length random) = rw b at hc in
-    let o = Trip.offer-answers s app random out sealed mac B hs hc′ hm r slot R in
-    let w = Trip.settle-answers s app random out sealed mac B hs hc′ hm r slot R in
-    let v = Trip.view-shows s app random out sealed mac B hs hc′ hm r slot R in
-    record {
-      builds = ap (λ (x : Built). x .answer) b;
-      number = ap (λ (x : Built). x .number) b;
-      total = rw b (Trip.total-is s app random out sealed mac B hs hc′ hm);
-      offered = rw b o;
-      settled-it = rw (b, o) (ap (λ (a : Answer). a .code) w);
-      shown = rw (b, o) v;
-    }
+read-back = Back.read-back
 
 -- ======== 3.
 

@@ -1,6 +1,6 @@
 -- Demand 2 bites: it fails of each wrong Build, and of wrong tables, on a closed case, by computation; it holds of the right ones.
 -- Assumes nothing.
-use Prim.Native.Nat.{ℕ, _-_, _^_, _<_}
+use Prim.Native.Nat.{ℕ, _-_}
 use mathlib.Core.Path.{_≡_, refl, sym, ap, _∙_}
 use mathlib.Core.Logic.{inl}
 use mathlib.Core.Bool.{Bool, true, cond, _&&_}
@@ -12,6 +12,8 @@ use borrow.Author.Tests.{eq-eqb, eqb-true}
 use Rattle.answers.proofs.Tests.{by-cases}
 use Rattle.channel.specs.Call.{Call, Answer, Outcome}
 use Rattle.channel.specs.Receiver.{newReceiver, answerTo}
+use Rattle.channel.proofs.Decisions.{bad-sender, bad-receiver}
+use Rattle.numbers.proofs.Laws.{typed-none}
 use Rattle.channel.specs.Rules.{outcome}
 use Rattle.channel.specs.View.{View}
 use Rattle.channel.specs.declared.sender.Sender.{Sender}
@@ -22,7 +24,7 @@ use Rattle.promises.specs.WrongReceivers.{set, iv, refusesAll, numberZer
 use Rattle.promises.specs.WrongBuilds.{writesNothing, builtAsOther, wrongBuilds}
 use Rattle.promises.proofs.Computing.{computing}
 use Rattle.promises.proofs.Failing.{fails}
-use Rattle.promises.proofs.Demands.{read-back}
+use Rattle.promises.proofs.ReadBack.{read-back}
 
 -- a sender before number 5, a buffer and a MAC
 five : Sender
@@ -36,24 +38,27 @@ mac = replicate 16 0
 
 can-build : CanBuild five (1 ∷ []) [] room
 unfolding computing five
-can-build = record { state = refl; left = omega arith; padding = λ h. refl; size = omega arith; room = omega arith }
+can-build =
+    record {
+      declared = record { session = omega arith };
+      state = bad-sender five .fails refl;
+      left = omega arith;
+      padding = λ h. refl;
+      size = omega arith;
+      room = omega arith;
+    }
 
 can-take : CanTake (newReceiver set iv) 0 five
 unfolding computing five
 can-take = record {
-  state = refl;
+  state = bad-receiver (newReceiver set iv) (record { iv = refl; marks = typed-none }) .fails refl;
   alike = refl;
   there = inl refl;
   iv = refl;
-  low = omega arith;
-  high = inl (omega arith);
+  reach = (omega arith, inl (omega arith));
   young = omega arith;
   fresh = refl;
 }
-
-session-fits : five .setting .session < 2 ^ 32
-unfolding five
-session-fits = omega arith
 
 mac-fits : length mac ≡ macLen (five .setting)
 unfolding computing five
@@ -79,7 +84,7 @@ unfolding reading
 reads-read x t =
     by-cases (λ (b : Bool). b ≡ true) (eqb 0 (reading x .0)) _ _
     (λ e.
-    let r = t five (1 ∷ []) [] room [] mac (newReceiver set iv) 0 can-build can-take session-fits (eqb-true 0 (reading x .0) e) mac-fits in
+    let r = t five (1 ∷ []) [] room [] mac (newReceiver set iv) 0 can-build can-take (eqb-true 0 (reading x .0) e) mac-fits in
     rw (eq-eqb (reading x .1) 0 (r .0), eq-eqb (reading x .2) (reading x .3) (r .1)))
     (λ e. refl)
 
@@ -90,6 +95,6 @@ wrong-builds-fail = fails _ reading isRead reads-read wrongBuilds _ misread tt
 -- and holds of the right ones
 pub right-builds : Reads outcome rightBuilds
 unfolding answerTo
-right-builds s app random out sealed mac r slot B R hs hc hm =
-    let w = read-back s app random out sealed mac r slot B R hs hc hm in
+right-builds s app random out sealed mac r slot B R hc hm =
+    let w = read-back s app random out sealed mac r slot B R hc hm in
     (ap (λ (a : Answer). a .code) (w .offered), ap (λ (a : Answer). a .number) (w .offered) ∙ sym (w .number))

@@ -4,6 +4,8 @@ pub mod Plain
 pub mod SendRun
 pub mod World
 pub mod Premises
+pub mod ReadBack
+pub mod Laid
 pub mod Barred
 pub mod Marks
 pub mod Ways

@@ -1,6 +1,6 @@
 -- Ways to receive, to send and to build, right or wrong, and what T1, T2, T3 and demand 2 say of any of them.
 -- Assumes nothing.
-use Prim.Native.Nat.{ℕ, _-_, _^_, _<_}
+use Prim.Native.Nat.{ℕ, _-_}
 use mathlib.Core.Path.{_≡_}
 use mathlib.Core.List.{List, [], _∷_}
 use lib.ListN.{length}
@@ -18,7 +18,8 @@ use Rattle.promises.specs.Tools.{Distinct}
 use Rattle.promises.specs.Run.{answersBy, allMarked}
 use Rattle.promises.specs.Plain.{openPlain, plainAnswers}
 use Rattle.promises.specs.SendRun.{Send, Sending, usedBy, under, from}
-use Rattle.promises.specs.Premises.{CanBuild, CanTake, sealedRecord}
+use Rattle.promises.specs.Premises.{CanBuild, CanTake}
+use Rattle.promises.specs.ReadBack.{sealedRecord}
 
 -- P fails of each
 abbrev pub Fails : {A : Type 0} → (A → Type 0) → List A → Type 0
@@ -80,7 +81,7 @@ offeredBy decides b sealed mac r slot = decides (look r) (offer (sealedRecord (b
 -- demand 2, as far as Offer: it answers 0, and the number that Build answered
 abbrev pub Reads : (View → Call → Outcome) → Builds → Type 0
 Reads decides builds = (s : Sender) (app random out sealed mac : List ℕ) (r : Receiver) (slot : ℕ)
-    → CanBuild s app random out → CanTake r slot s → s .setting .session < 2 ^ 32
+    → CanBuild s app random out → CanTake r slot s
     → length sealed ≡ builds s app random out .0 .text - builds s app random out .0 .assoc → length mac ≡ macLen (s .setting)
     → (offeredBy decides (builds s app random out) sealed mac r slot .code ≡ 0)
     × (offeredBy decides (builds s app random out) sealed mac r slot .number ≡ builds s app random out .0 .number)

@@ -1,6 +1,11 @@
 pub mod Forms
 pub mod Sizes
 pub mod Writes
+pub mod Modes
+pub mod Fronts
+pub mod Offsets
+pub mod Passes
+pub mod Shown
 pub mod Page
 pub mod Zeros
 pub mod Told
