@@ -6,10 +6,12 @@ pub mod Once
 pub mod Sends
 pub mod Refusals
 pub mod Made
+pub mod Sealed
 pub mod EndToEnd
 pub mod Replay
 pub mod Toy
-pub mod Example
+pub mod Computed
+pub mod Examples
 pub mod Trip
 pub mod Marking
 pub mod Laid

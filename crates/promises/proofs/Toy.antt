@@ -1,23 +1,25 @@
--- A small cipher with keys of 32 bytes, and what is computed with it: the assumptions of T4 can be met together, and data is handed out
--- under them. It is no good cipher; it stands for one.
+-- The small cipher: its keys have 32 bytes and differ, and what it seals may be settled as T4 assumes.
 -- Assumes nothing.
-use Prim.Native.Nat.{ℕ, _+_, _-_, _*_, _/_, _%_, _^_, _<_}
+use Prim.Native.Nat.{ℕ, _+_, _*_, _/_, _%_, _^_, _≤_, _<_}
 use mathlib.Core.Path.{_≡_, refl, ap, sym, _∙_}
-use mathlib.Core.Bool.{Bool, true, false, _&&_}
-use mathlib.Core.List.{List, [], _∷_, _++_, map}
+use mathlib.Core.Bool.{Bool, true, false}
+use mathlib.Core.List.{List, List·Memᴰ}
 use native.Mathlib.Omega.{arith}
-use lib.Dec.{eqb}
-use lib.Bits.{bitXor}
-use lib.ListN.{length, take, drop, replicate}
-use Rattle.octets.specs.Fields.{field, little}
-use Rattle.record.specs.Shape.{assocEnd, textEnd}
+use lib.Dec.{leb}
+use lib.ListN.{length}
+use borrow.Author.Tests.{leb-true}
+use Rattle.answers.proofs.Tests.{true-not-false}
+use Rattle.octets.specs.Fields.{field}
 use Rattle.record.specs.declared.setting.Setting.{Setting}
-use Rattle.promises.specs.World.{Sent, Cipher}
+use Rattle.promises.specs.World.{Sent, World, assocOf, countsOf, Honest}
+use Rattle.promises.specs.Toy.{keyOf, toy, wire}
 
--- ---- the keys: 32 bytes, another for each key count
+-- one fact for each Settle of a run
+infixr 4 _then_
+pub _then_ : {A B : Type 0} → A → B → A × B
+a then b = (a, b)
 
-unfoldable pub keyOf : ℕ → List ℕ
-keyOf c = little 4 c ++ replicate 28 7
+-- ---- the keys
 
 pub key-length : (c : ℕ) → length (keyOf c) ≡ 32
 unfolding keyOf
@@ -34,30 +36,35 @@ key-field c h = four-bytes c h
 pub keys-differ : (a b : ℕ) → a < 2 ^ 32 → b < 2 ^ 32 → keyOf a ≡ keyOf b → a ≡ b
 keys-differ a b p q e = sym (key-field a p) ∙ ap (λ (k : List ℕ). field k 0 4) e ∙ key-field b q
 
--- ---- the cipher
+-- ---- what is assumed of a Settle, met
 
-unfoldable pub eqList : List ℕ → List ℕ → Bool
-eqList [] [] = true
-eqList [] (b ∷ m) = false
-eqList (a ∷ l) [] = false
-eqList (a ∷ l) (b ∷ m) = eqb a b && eqList l m
+-- both ends are set alike, and had few key counts
+abbrev pub Ready : Setting → World → Type 0
+Ready s w = (w .sender .setting ≡ s) × (w .receiver .setting ≡ s) × (leb (countsOf w) 1 ≡ true)
 
-unfoldable pub weigh : ℕ → List ℕ → ℕ
-weigh h [] = h
-weigh h (b ∷ l) = weigh ((h * 257 + b) % 2 ^ 128) l
+apart : (w : World) → leb (countsOf w) 1 ≡ true → (a b : ℕ) → a ≤ countsOf w → b ≤ countsOf w → keyOf a ≡ keyOf b → a ≡ b
+apart w h a b p q e = let l = leb-true (countsOf w) 1 h in keys-differ a b (omega arith) (omega arith) e
 
-unfoldable pub tag : List ℕ → ℕ → List ℕ → List ℕ
-tag k n x = little 16 (weigh 1 (k ++ little 8 n ++ x))
+-- the cipher says yes to what goes over the wire for b, which was sealed, and gives back its text
+pub yes-met : {w : World} (s : Setting) (b : Sent) → Ready s w → List·Memᴰ b (w .sealed)
+    → (toy s .says (keyOf (b .item .count)) (b .item .number) (wire b) ≡ true) × (b .assoc ≡ assocOf s (wire b))
+    × (b .text ≡ toy s .text (keyOf (b .item .count)) (b .item .number) (wire b))
+    → Honest (toy s) keyOf keyOf w (wire b) (b .item .count) (b .item .number) true (b .text)
+yes-met {w} s b (x, y, few) m (says, assoc, text) =
+    record {
+      alike = (x ∙ sym y, λ c h. refl);
+      no-reuse = apart w few;
+      own = (sym says, λ h. text);
+      genuine = λ h. record { sent = b; earlier = m; under-key = refl; under-number = refl; same-assoc = rw y assoc; same-text = text };
+    }
 
-unfoldable pub masked : List ℕ → List ℕ
-masked = map (λ b. bitXor b 90)
-
-unfoldable pub toy : Setting → Cipher (List ℕ)
-toy s = record {
-  says = λ k n r. eqList (drop (textEnd s r) r) (tag k n (take (textEnd s r) r));
-  text = λ k n r. masked (take (textEnd s r - assocEnd s r) (drop (assocEnd s r) r));
-}
-
--- what goes over the wire for a record that was built
-unfoldable pub wire : Sent → List ℕ
-wire b = (b .assoc ++ masked (b .text)) ++ tag (keyOf (b .item .count)) (b .item .number) (b .assoc ++ masked (b .text))
+-- it says no to r
+pub no-met : {w : World} {r plain : List ℕ} {count number : ℕ} (s : Setting) → Ready s w → toy s .says (keyOf count) number r ≡ false
+    → Honest (toy s) keyOf keyOf w r count number false plain
+no-met {w} s (x, y, few) says =
+    record {
+      alike = (x ∙ sym y, λ c h. refl);
+      no-reuse = apart w few;
+      own = (sym says, λ h. absurd (true-not-false h refl));
+      genuine = λ h. absurd (true-not-false h says);
+    }

@@ -3,5 +3,7 @@ pub mod Run
 pub mod Plain
 pub mod SendRun
 pub mod World
+pub mod Toy
+pub mod Examples
 pub mod Premises
 pub mod Barred
