@@ -8,6 +8,7 @@ pub mod Refusals
 pub mod Made
 pub mod Sealed
 pub mod EndToEnd
+pub mod Bridge
 pub mod Replay
 pub mod Toy
 pub mod Computed
