@@ -7,14 +7,14 @@ use mathlib.Core.Bool.{Bool, true, false}
 use mathlib.Core.List.{List, [], _∷_, _++_}
 use native.Mathlib.Omega.{arith}
 use native.Mathlib.Decide.{decLt}
-use lib.Dec.{T, eqb}
+use lib.Dec.{eqb}
 use lib.ListN.{length}
 use borrow.Author.Tests.{not-false}
 use Rattle.channel.proofs.Outcome.{code-is, effect-is}
 use Rattle.answers.specs.Refusal.{authentic}
 use Rattle.answers.proofs.Tests.{true-not-false, tells-eq, tells-or}
 use Rattle.answers.specs.Refusal as Refusal
-use Rattle.answers.proofs.Table.{numbered, first-past, first-stop, row-passed}
+use Rattle.answers.proofs.Table.{first-past, first-stop, row-passed}
 use Rattle.answers.specs.Reasons.{Tells}
 use Rattle.answers.specs.Table.{first}
 use Rattle.channel.specs.Call.{Call, offer, settle, dropOld, Effect, stay, marking, turning, dropping, Outcome}
@@ -134,7 +134,8 @@ module _ (v : View) (r : List ℕ) (slot n : ℕ) (good : v .bad ≡ false) (key
   unfolding rows
   settle-again count number′ passed plain =
       let o = offer-table in
-      rw (code-is v (settle r slot count number′ passed plain), first-stop (offerRows v r slot) (cipherRows v r slot count number′ passed plain ++ markingRows v r plain) (not-zero _ o)) o
+      let rest = cipherRows v r slot count number′ passed plain ++ markingRows v r plain in
+      rw (code-is v (settle r slot count number′ passed plain), first-stop (offerRows v r slot) rest (not-zero _ o)) o
 
 -- ---- a key that is gone: its count is passed, and the old slot, where it is held, has a higher one
 
@@ -216,9 +217,15 @@ pub authentic-told : (k : ℕ) → Tells (authentic k) ((k ≡ 0) ⊎ (k ≡ Ref
 unfolding authentic Refusal.marks
 authentic-told k = tells-or (tells-eq k 0) (tells-eq k Refusal.Inner)
 
--- in a state of a run in which the plain receiver knows n under c, and r had the number n
+-- the record r passed the frame's checks, and under E it was read as the number n, which is not spent
+record ReadAs (s : Setting) (e : ℕ) (r : List ℕ) (n : ℕ) : Type 0 where
+  framed : first (recordRows s r) ≡ 0
+  number : numberOf s e r ≡ n
+  spare : n < s .limit
+
+-- in a state of a run in which the plain receiver knows n under c, and r was read as n
 module _ (x : Receiver) (p : Plain) (B : Both x p) (r : List ℕ) (c n e : ℕ) (known : Known c n (keysOf p))
-    (framed : first (recordRows (p .setting) r) ≡ 0) (number : numberOf (p .setting) e r ≡ n) (spare : n < p .setting .limit) where
+    (was : ReadAs (p .setting) e r n) where
   plain-outcome : (k : Call) → outcome (look x) k ≡ outcome (plainLook p) k
   plain-outcome k = step-related x p k (B .related) .0
 
@@ -238,7 +245,7 @@ module _ (x : Receiver) (p : Plain) (B : Both x p) (r : List ℕ) (c n e : ℕ) 
       let s = seen-in p slot c n (eqb slot 0) refl (B .sane-plain) known k q in
       let f : nextIn x slot ≡ keyAt (plainLook p) slot .next = same-next (look x) (plainLook p) slot alike in
       let low : n < keyAt (plainLook p) slot .next = s .1 in
-      (k, number-again (p .setting) e (keyAt (plainLook p) slot .next) n r number low (omega arith), s .0)
+      (k, number-again (p .setting) e (keyAt (plainLook p) slot .next) n r (was .number) low (omega arith), s .0)
 
   barred : Barred x r c n
   unfolding answerTo plainLook look
@@ -249,11 +256,11 @@ module _ (x : Receiver) (p : Plain) (B : Both x p) (r : List ℕ) (c n e : ℕ) 
     offers = λ slot H l.
         let i = in-slot slot H l in
         subst (λ (o : Outcome). RepeatOrOld (o .answer .code)) (sym (plain-outcome (offer r slot)))
-        (offer-again (plainLook p) r slot n good (i .0) framed (i .1) spare (i .2));
+        (offer-again (plainLook p) r slot n good (i .0) (was .framed) (i .1) (was .spare) (i .2));
     settles = λ slot H l count number passed plain.
         let i = in-slot slot H l in
         subst (λ (o : Outcome). RepeatOrOld (o .answer .code)) (sym (plain-outcome (settle r slot count number passed plain)))
-        (settle-again (plainLook p) r slot n good (i .0) framed (i .1) spare (i .2) count number passed plain);
+        (settle-again (plainLook p) r slot n good (i .0) (was .framed) (i .1) (was .spare) (i .2) count number passed plain);
     other = λ slot l. number-other (x .setting) (nextIn x slot) n r (omega arith);
     dropped = dropped-for-ever x c;
   }
@@ -274,20 +281,11 @@ after-both : (x : Receiver) (p : Plain) (c : Call) (later : List Call) → Both 
 unfolding stateAfter afterBy
 after-both x p c later B = run-both _ _ later (step-both x p c B)
 
-plain-framed : (p : Plain) (r : List ℕ) (slot c n : ℕ) (passed : Bool) (plain : List ℕ) → Passed (plainLook p) r slot c n passed plain
-    → first (recordRows (p .setting) r) ≡ 0
+plain-read : (p : Plain) (r : List ℕ) (slot c n : ℕ) (passed : Bool) (plain : List ℕ) → Passed (plainLook p) r slot c n passed plain
+    → ReadAs (p .setting) (keyAt (plainLook p) slot .next) r n
 unfolding plainLook
-plain-framed p r slot c n passed plain P = P .framed
-
-plain-number : (p : Plain) (r : List ℕ) (slot c n : ℕ) (passed : Bool) (plain : List ℕ) → Passed (plainLook p) r slot c n passed plain
-    → numberOf (p .setting) (keyAt (plainLook p) slot .next) r ≡ n
-unfolding plainLook
-plain-number p r slot c n passed plain P = sym (P .cipher .same-number)
-
-plain-spare : (p : Plain) (r : List ℕ) (slot c n : ℕ) (passed : Bool) (plain : List ℕ) → Passed (plainLook p) r slot c n passed plain
-    → n < p .setting .limit
-unfolding plainLook
-plain-spare p r slot c n passed plain P = P .place .spare
+plain-read p r slot c n passed plain P =
+    record { framed = P .framed; number = sym (P .cipher .same-number); spare = P .place .spare }
 
 -- the Settle, and any later calls
 after-settle : (x : Receiver) (p : Plain) → Both x p → (r : List ℕ) (slot c n : ℕ) (passed : Bool) (plain : List ℕ)
@@ -304,9 +302,7 @@ after-settle x p B r slot c n passed plain t later =
     let q : plainReached p₁ later .setting ≡ p .setting = run-setting p₁ later ∙ after-setting p call in
     barred _ (plainReached p₁ later) (after-both x p call later B) r c n (keyAt (plainLook p) slot .next)
     (run-kept p₁ later k)
-    (subst (λ (s : Setting). first (recordRows s r) ≡ 0) (sym q) (plain-framed p r slot c n passed plain P))
-    (subst (λ (s : Setting). numberOf s (keyAt (plainLook p) slot .next) r ≡ n) (sym q) (plain-number p r slot c n passed plain P))
-    (subst (λ (s : Setting). n < s .limit) (sym q) (plain-spare p r slot c n passed plain P))
+    (subst (λ (s : Setting). ReadAs s (keyAt (plainLook p) slot .next) r n) (sym q) (plain-read p r slot c n passed plain P))
 
 -- from open: where the open was refused, no record is authentic
 zero-run : (cs : List Call) → reached zeroReceiver cs ≡ zeroReceiver
@@ -318,6 +314,7 @@ state-plain : authentic Refusal.State ≡ false
 unfolding authentic Refusal.marks
 state-plain = refl
 
+-- what a Settle of r under c and n, answered with 0 or 14, leaves for ever
 pub barred-for-ever : (s : Setting) (iv : List ℕ) (before later : List Call) (r : List ℕ) (slot c n : ℕ) (passed : Bool) (plain : List ℕ)
     → authentic (answerTo (reached (openReceiver s iv .next) before) (settle r slot c n passed plain) .code) ≡ true
     → Barred (reached (stateAfter (reached (openReceiver s iv .next) before) (settle r slot c n passed plain)) later) r c n

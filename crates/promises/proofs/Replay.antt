@@ -1,7 +1,7 @@
 -- Names that Demands and Trip still cite: see Bridge, and numbers/Nearest near-exactly.
 -- Assumes nothing.
 use Prim.Native.Nat.{ℕ, _+_, _-_, _%_, _≤_}
-use mathlib.Core.Path.{_≡_, refl, ap, sym, _∙_}
+use mathlib.Core.Path.{_≡_, ap, sym, _∙_}
 use mathlib.Core.Logic.{_≢_, inl}
 use mathlib.Core.Bool.{false}
 use mathlib.Core.List.{List}

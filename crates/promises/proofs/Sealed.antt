@@ -14,7 +14,7 @@ use Rattle.answers.proofs.Tests.{true-not-false, by-cases}
 use Rattle.answers.specs.Table.{first}
 use Rattle.channel.proofs.Outcome.{granted-is}
 use Rattle.channel.specs.Call.{Call, offer, settle, gaps, changeKey, dropOld, Answer, Effect, stay, marking, turning, dropping}
-use Rattle.channel.specs.Receiver.{look, change, answerTo, stateAfter, openReceiver}
+use Rattle.channel.specs.Receiver.{look, change, answerTo, stateAfter}
 use Rattle.channel.specs.Rules.{granted, outcome}
 use Rattle.channel.specs.Sender.{buildRows, changeRows, built, buildOf, buildOut, changeSender}
 use Rattle.channel.specs.View.{View, countAt}
@@ -148,16 +148,23 @@ unfolding answerTo authentic
 zero-passed r a slot count number passed plain z =
     settle-passed (look r) a slot count number passed plain (rw (eq-eqb _ 0 z))
 
+-- what a view shows at a place, under a key count and a number
+abbrev viewed : Setting → ℕ → ℕ → List ℕ → List ℕ → ℕ → ℕ → Item
+viewed s count number r plain place size = record { count = count; number = number; app = viewOf (s .mode) place size r plain }
+
+-- and the data of a record
+abbrev dataOf : Setting → ℕ → ℕ → List ℕ → List ℕ → Item
+dataOf s count number r plain = viewed s count number r plain (dataPlace s r) (dataLen s r plain)
+
 shows-granted : (s : Setting) (r : Receiver) → r .setting ≡ s → (a : List ℕ) (slot count number : ℕ) (passed : Bool) (plain : List ℕ)
     → answerTo r (settle a slot count number passed plain) .code ≡ 0
-    → _≡_ {A = Item}
-    (record { count = count; number = number; app = viewOf (s .mode) (answerTo r (settle a slot count number passed plain) .place) (answerTo r (settle a slot count number passed plain) .length) a plain })
-    (record { count = count; number = number; app = viewOf (s .mode) (dataPlace s a) (dataLen s a plain) a plain })
+    → let x = answerTo r (settle a slot count number passed plain) in
+    viewed s count number a plain (x .place) (x .length) ≡ dataOf s count number a plain
 unfolding answerTo granted look
 shows-granted s r e a slot count number passed plain z =
     let q = granted-is (look r) (settle a slot count number passed plain) z in
-    ap (λ (x : Answer). record { count = count; number = number; app = viewOf (s .mode) (x .place) (x .length) a plain }) q
-    ∙ ap (λ (t : Setting). record { count = count; number = number; app = viewOf (s .mode) (dataPlace t a) (dataLen t a plain) a plain }) e
+    ap (λ (x : Answer). viewed s count number a plain (x .place) (x .length)) q
+    ∙ ap (λ (t : Setting). viewed s count number a plain (dataPlace t a) (dataLen t a plain)) e
 
 count-below : (v : View) (slot : ℕ) → countAt v slot ≤ v .count
 count-below v slot = by-cases (λ (k : ℕ). k ≤ v .count) (eqb slot 0) _ _ (λ h. omega arith) (λ h. omega arith)
@@ -172,8 +179,7 @@ module _ {K : Type 0} (C : Cipher K) (sendKey receiveKey : ℕ → K) (t : Setti
   -- an authentic record shows what was sealed
   authentic-sealed : (w : World) → Sane t w → (r : List ℕ) (slot count number : ℕ) (passed : Bool) (plain : List ℕ)
       → Honest C sendKey receiveKey w r count number passed plain → Passed (look (w .receiver)) r slot count number passed plain
-      → List·Memᴰ (record { count = count; number = number; app = viewOf (t .mode) (dataPlace t r) (dataLen t r plain) r plain })
-      (map (λ (b : Sent). b .item) (w .sealed))
+      → List·Memᴰ (dataOf t count number r plain) (map (λ (b : Sent). b .item) (w .sealed))
   unfolding Fine look
   authentic-sealed w S r slot count number passed plain H P =
       let good = passed-setting (w .receiver) r slot count number passed plain P in
@@ -188,7 +194,7 @@ module _ {K : Type 0} (C : Cipher K) (sendKey receiveKey : ℕ → K) (t : Setti
       let v : viewOf (t .mode) (dataPlace t r) (dataLen t r plain) r plain ≡ b .item .app =
       shown t b r plain (rw here at good) (subst (λ (s : Setting). Made s b) (H .alike .0 ∙ here) (M .0)) (rw here at (P .frame))
       (rw here at (B .same-assoc)) (H .own .1 (P .cipher .says) ∙ sym (B .same-text)) in
-      let e : _≡_ {A = Item} (record { count = count; number = number; app = viewOf (t .mode) (dataPlace t r) (dataLen t r plain) r plain }) (b .item) =
+      let e : dataOf t count number r plain ≡ b .item =
       λ i. record { count = sym same i; number = sym (B .under-number) i; app = v i } in
       Memᴰ·cast e (Memᴰ·map (λ (b : Sent). b .item) (B .earlier))
 

@@ -32,6 +32,7 @@ unfolding buildOf
 builds s p q room =
     by-cases (Builds s) (eqb (first (buildRows s p q room)) 0) _ _ (λ h. granted refl refl refl) (λ h. kept h refl)
 
+-- a key change raises the key count and starts at number 0, or keeps the state
 pub data Turns (s : Sender) (iv : List ℕ) (t : SenderStep) : Type 0 where
   granted : t .answer ≡ 0 → t .next ≡ turnTo s iv → Turns s iv t
   kept : eqb (t .answer) 0 ≡ false → t .next ≡ s → Turns s iv t
@@ -42,9 +43,11 @@ turns s iv = by-cases (Turns s iv) (eqb (first (changeRows s)) 0) _ _ (λ h. gra
 
 -- ---- a list of pairs that goes on from number n of key count k
 
+-- a pair that is used then or later
 Later : ℕ → ℕ → ℕ × ℕ → Type 0
 Later k n x = (k < x .0) ⊎ ((x .0 ≡ k) × (n ≤ x .1))
 
+-- the first number still to be used under the key count c
 start : ℕ → ℕ → ℕ → ℕ
 start k n c = cond (eqb k c) n 0
 
@@ -61,6 +64,10 @@ later-cons : (k n : ℕ) (x : ℕ × ℕ) → Later k (n + 1) x → Later k n x
 unfolding Later
 later-cons k n x (inl h) = inl h
 later-cons k n x (inr (h, g)) = inr (h, omega arith)
+
+later-first : (k n : ℕ) (x : ℕ × ℕ) → x ≡ (k, n) → Later k n x
+unfolding Later
+later-first k n x e = rw e (inr (refl, omega arith))
 
 later-not : (k n : ℕ) → Later k (n + 1) (k, n) → ⊥
 unfolding Later
@@ -81,7 +88,7 @@ run-cons : (k n : ℕ) (l : List (ℕ × ℕ)) → Run k (n + 1) l → Run k n (
 unfolding Later
 run-cons k n l R =
     record {
-      later = λ x m. elim (List·Memᴰ·cases-cons m) [ inl e ↦ inr (ap (λ (y : ℕ × ℕ). y .0) e, (let z : x .1 ≡ n = ap (λ (y : ℕ × ℕ). y .1) e in omega arith)) | inr m′ ↦ later-cons k n x (R .later x m′) ];
+      later = λ x m. elim (List·Memᴰ·cases-cons m) [ inl e ↦ later-first k n x e | inr m′ ↦ later-cons k n x (R .later x m′) ];
       apart = more (λ m. later-not k n (R .later (k, n) m)) (R .apart);
       order = λ c. order-cons k n c l (R .order c);
     }
@@ -95,7 +102,9 @@ later-turn k n x (inr h) = inl (omega arith)
 under-none : (c : ℕ) (l : List (ℕ × ℕ)) → ((x : ℕ × ℕ) → List·Memᴰ x l → c < x .0) → under c l ≡ []
 unfolding under
 under-none c [] h = refl
-under-none c (x ∷ l) h = rw (ne-eqb (x .0) c (let z : c < x .0 = h x (List·Memᴰ·head refl) in omega arith)) (under-none c l (λ y m. h y (List·Memᴰ·tail m)))
+under-none c (x ∷ l) h =
+    let z : c < x .0 = h x (List·Memᴰ·head refl) in
+    rw (ne-eqb (x .0) c (omega arith)) (under-none c l (λ y m. h y (List·Memᴰ·tail m)))
 
 start-zero : (k c : ℕ) → start k 0 c ≡ 0
 unfolding start

@@ -1,15 +1,16 @@
 -- The small cipher: its keys have 32 bytes and differ, and what it seals may be settled as T4 assumes.
 -- Assumes nothing.
-use Prim.Native.Nat.{ℕ, _+_, _*_, _/_, _%_, _^_, _≤_, _<_}
+use Prim.Native.Nat.{ℕ, zero, suc, _+_, _*_, _/_, _%_, _^_, _≤_, _<_}
 use mathlib.Core.Path.{_≡_, refl, ap, sym, _∙_}
-use mathlib.Core.Bool.{Bool, true, false}
-use mathlib.Core.List.{List, List·Memᴰ}
+use mathlib.Core.Bool.{true, false}
+use mathlib.Core.List.{List, _++_, List·Memᴰ}
 use native.Mathlib.Omega.{arith}
 use lib.Dec.{leb}
-use lib.ListN.{length}
+use lib.ListN.{length, replicate}
 use borrow.Author.Tests.{leb-true}
 use Rattle.answers.proofs.Tests.{true-not-false}
-use Rattle.octets.specs.Fields.{field}
+use Rattle.numbers.specs.Memory.{Below}
+use Rattle.octets.specs.Fields.{field, little}
 use Rattle.record.specs.declared.setting.Setting.{Setting}
 use Rattle.promises.specs.World.{Sent, World, assocOf, countsOf, Honest}
 use Rattle.promises.specs.Toy.{keyOf, toy, wire}
@@ -21,9 +22,22 @@ a then b = (a, b)
 
 -- ---- the keys
 
+-- a key has 32 bytes
 pub key-length : (c : ℕ) → length (keyOf c) ≡ 32
 unfolding keyOf
 key-length c = refl
+
+little-bytes : (k n : ℕ) (l : List ℕ) → Below 256 l → Below 256 (little k n ++ l)
+little-bytes zero n l h = h
+little-bytes (suc k) n l h = (omega arith, little-bytes k (n / 256) l h)
+
+same-bytes : (k b : ℕ) → b < 256 → Below 256 (replicate k b)
+same-bytes zero b h = tt
+same-bytes (suc k) b h = (h, same-bytes k b h)
+
+pub key-bytes : (c : ℕ) → Below 256 (keyOf c)
+unfolding keyOf
+key-bytes c = little-bytes 4 c (replicate 28 7) (same-bytes 28 7 (omega arith))
 
 four-bytes : (n : ℕ) → n < 2 ^ 32 → n % 256 + 256 * (n / 256 % 256 + 256 * (n / 256 / 256 % 256 + 256 * (n / 256 / 256 / 256 % 256 + 256 * 0))) ≡ n
 four-bytes n h = omega arith
