@@ -22,7 +22,8 @@ use Rattle.record.specs.Write.{bodyLen, assocEndFor, formRows, roomRows, bodyOf
 use Rattle.promises.specs.Run.{afterBy, answersBy, handedBy}
 use Rattle.promises.specs.World.{sentOf, at, next, handedIn, callsOf}
 use Rattle.promises.specs.Toy.{keyOf, weigh, tag, masked, eqList, toy, front, wire, forged}
+use Rattle.promises.proofs.Toy.{sameSetting, sameAnswer, isSent, isIn, readyTest, sealTest, callTest, runTest}
 
 unfoldable pub runs : Unit {0}
-unfolding isZeroKey badReceiver look change answerTo stateAfter stateRows slotRows offerRows cipherRows markingRows rows granted effectOf refused outcome badSender senderRows buildRows changeRows buildOf buildOut changeSender noKey widthOf soundWindow after windowOf seenBy isEmpty whole nearest numberRows marked markNext markWord sound bit setBit wordOf marksOf field blank part sessionOf partialOf lengthOf numberOf headOf nonceOf spread recordRows placeRows authOnly badSetting openRows windowWidth headLen macLen innerLen mostLength least totalOf startOf textEnd assocEnd plainLen dataPlace dataLen innerBad viewOf bodyLen assocEndFor formRows roomRows bodyOf frontOf afterBy answersBy handedBy sentOf at next handedIn callsOf keyOf weigh tag masked eqList toy front wire forged Refusal.marks
+unfolding isZeroKey badReceiver look change answerTo stateAfter stateRows slotRows offerRows cipherRows markingRows rows granted effectOf refused outcome badSender senderRows buildRows changeRows buildOf buildOut changeSender noKey widthOf soundWindow after windowOf seenBy isEmpty whole nearest numberRows marked markNext markWord sound bit setBit wordOf marksOf field blank part sessionOf partialOf lengthOf numberOf headOf nonceOf spread recordRows placeRows authOnly badSetting openRows windowWidth headLen macLen innerLen mostLength least totalOf startOf textEnd assocEnd plainLen dataPlace dataLen innerBad viewOf bodyLen assocEndFor formRows roomRows bodyOf frontOf afterBy answersBy handedBy sentOf at next handedIn callsOf keyOf weigh tag masked eqList toy front wire forged sameSetting sameAnswer isSent isIn readyTest sealTest callTest runTest Refusal.marks
 runs = tt
