@@ -6,6 +6,7 @@ pub mod Once
 pub mod Sends
 pub mod Refusals
 pub mod Made
+pub mod Ends
 pub mod Sealed
 pub mod EndToEnd
 pub mod Bridge

@@ -11,6 +11,7 @@ use lib.ListN.{length, replicate}
 use Rattle.answers.proofs.Tests.{true-not-false, both-true}
 use Rattle.channel.specs.Call.{Call, offer, settle, gaps, changeKey, dropOld}
 use Rattle.numbers.specs.Memory.{Below}
+use Rattle.octets.proofs.Endian.{field-at}
 use Rattle.octets.specs.Fields.{field, little}
 use Rattle.record.specs.declared.setting.Setting.{Setting}
 use Rattle.promises.specs.World.{Step, build, turn, seal, receive, Sent, World, next, Each, assocOf, countsOf, SealedBefore, Honest, HonestCall}
@@ -35,12 +36,9 @@ pub key-bytes : (c : ℕ) → Below 256 (keyOf c)
 unfolding keyOf
 key-bytes c = little-bytes 4 c (replicate 28 7) (same-bytes 28 7 (omega arith))
 
-four-bytes : (n : ℕ) → n < 2 ^ 32 → n % 256 + 256 * (n / 256 % 256 + 256 * (n / 256 / 256 % 256 + 256 * (n / 256 / 256 / 256 % 256 + 256 * 0))) ≡ n
-four-bytes n h = omega arith
-
 key-field : (c : ℕ) → c < 2 ^ 32 → field (keyOf c) 0 4 ≡ c
-unfolding keyOf field
-key-field c h = four-bytes c h
+unfolding keyOf
+key-field c h = field-at [] 4 c (replicate 28 7) h
 
 -- no key is used again, among all key counts that there are
 pub keys-differ : (a b : ℕ) → a < 2 ^ 32 → b < 2 ^ 32 → keyOf a ≡ keyOf b → a ≡ b

@@ -15,6 +15,7 @@ use Rattle.channel.specs.declared.sender.Sender.{Sender}
 use Rattle.record.specs.Shape.{assocEnd}
 use Rattle.record.specs.declared.setting.Setting.{Setting}
 use Rattle.promises.specs.Run.{Item, handedBy}
+use Rattle.promises.specs.SendRun as Sends
 
 -- ---- the steps
 
@@ -102,6 +103,19 @@ callsOf (build app random out ∷ rest) = callsOf rest
 callsOf (turn iv ∷ rest) = callsOf rest
 callsOf (seal i ∷ rest) = callsOf rest
 callsOf (receive c ∷ rest) = c ∷ callsOf rest
+
+-- the sender's calls of the run
+unfoldable pub sendsOf : List Step → List Sends.Send
+sendsOf [] = []
+sendsOf (build app random out ∷ rest) = Sends.build app random out ∷ sendsOf rest
+sendsOf (turn iv ∷ rest) = Sends.turnKey iv ∷ sendsOf rest
+sendsOf (seal i ∷ rest) = sendsOf rest
+sendsOf (receive c ∷ rest) = sendsOf rest
+
+-- the world after a run
+unfoldable pub worldAfter : World → List Step → World
+worldAfter w [] = w
+worldAfter w (x ∷ rest) = worldAfter (next w x) rest
 
 -- ---- the cipher and its user
 
