@@ -9,7 +9,6 @@ pub mod Opening
 pub mod Wrapping
 pub mod Once
 pub mod Sends
-pub mod Refusals
 pub mod Words
 pub mod Builds
 pub mod Laid
@@ -18,13 +17,15 @@ pub mod NumberFound
 pub mod Settles
 pub mod ReadBack
 pub mod Made
-pub mod EndToEnd
-pub mod Replay
+pub mod Sealed
+pub mod Ends
+pub mod Bridge
 pub mod Toy
-pub mod Example
-pub mod Demands
 pub mod Computing
+pub mod Computed
+pub mod Examples
 pub mod Failing
 pub mod WrongReceivers
 pub mod WrongSenders
 pub mod WrongBuilds
+pub mod Demands

@@ -27,7 +27,7 @@ use Rattle.promises.proofs.Good.{Good, good-parts}
 use Rattle.promises.proofs.Refused.{refused-zeros, refused-keeps, offer-plain, gaps-plain, change-plain, drop-plain}
 use Rattle.promises.specs.Tools.{or-more}
 use Rattle.promises.specs.Marks.{Marked}
-pub use Rattle.promises.specs.Marks.{MarksJust}
+use Rattle.promises.specs.Marks.{MarksJust}
 
 window-marks : (s : Setting) (w : Window) (n k : ℕ) → soundWindow (ruleOf s) w ≡ true → n < s .limit → w .next - n ≤ widthOf (ruleOf s)
     → seenBy (after (ruleOf s) w n) k ≡ (leb (after (ruleOf s) w n .next) (k + widthOf (ruleOf s)) && (eqb k n || seenBy w k))

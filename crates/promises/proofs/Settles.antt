@@ -36,7 +36,7 @@ use Rattle.promises.proofs.Builds.{build-passes, build-answers, buffer-
 use Rattle.promises.proofs.FramePasses.{frame-passes, wire-length, wire-text-end, wire-assoc-end, wire-assoc}
 use Rattle.promises.proofs.NumberFound.{number-found, number-passes}
 use Rattle.promises.proofs.Passed.{slot-numbered, frame-numbered}
-use Rattle.promises.proofs.Refusals.{sender-parts}
+use Rattle.promises.proofs.Sending.{sender-parts}
 
 -- ---- the slot
 

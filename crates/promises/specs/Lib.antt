@@ -3,6 +3,8 @@ pub mod Run
 pub mod Plain
 pub mod SendRun
 pub mod World
+pub mod Toy
+pub mod Examples
 pub mod Premises
 pub mod ReadBack
 pub mod Laid

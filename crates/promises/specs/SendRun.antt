@@ -39,14 +39,37 @@ module _ (does : Sender → Send → Sending) where
       usedBy (cond (eqb (o .code) 0) (k + 1) k) (o .next) cs
   usedBy k s (failed ∷ cs) = usedBy k (does s failed .next) cs
 
+  -- the sender after a run
+  unfoldable pub sentBy : Sender → List Send → Sender
+  sentBy s [] = s
+  sentBy s (c ∷ cs) = sentBy (does s c .next) cs
+
+  -- how many key changes a run is granted
+  unfoldable pub turnsBy : Sender → List Send → ℕ
+  turnsBy s [] = 0
+  turnsBy s (build app random out ∷ cs) = turnsBy (does s (build app random out) .next) cs
+  turnsBy s (turnKey iv ∷ cs) = let o = does s (turnKey iv) in turnsBy (o .next) cs + cond (eqb (o .code) 0) 1 0
+  turnsBy s (failed ∷ cs) = turnsBy (does s failed .next) cs
+
 -- all that a sender's run uses
 abbrev pub used : Sender → List Send → List (ℕ × ℕ)
 used = usedBy sending 0
+
+-- the sender after its run, and the key changes that it was granted
+abbrev pub senderAfter : Sender → List Send → Sender
+senderAfter = sentBy sending
+
+abbrev pub turnsIn : Sender → List Send → ℕ
+turnsIn = turnsBy sending
 
 -- the numbers used under one key count, in order
 unfoldable pub under : ℕ → List (ℕ × ℕ) → List ℕ
 under c [] = []
 under c (x ∷ l) = cond (eqb (x .0) c) (x .1 ∷ under c l) (under c l)
+
+-- how many records a run builds under one key count
+abbrev pub buildsUnder : ℕ → Sender → List Send → ℕ
+buildsUnder c s cs = length (under c (used s cs))
 
 -- n, n + 1, n + 2 and on, k of them
 unfoldable pub from : ℕ → ℕ → List ℕ

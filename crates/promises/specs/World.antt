@@ -15,6 +15,7 @@ use Rattle.channel.specs.declared.sender.Sender.{Sender}
 use Rattle.record.specs.Shape.{assocEnd}
 use Rattle.record.specs.declared.setting.Setting.{Setting}
 use Rattle.promises.specs.Run.{Item, handedBy}
+use Rattle.promises.specs.SendRun as Sends
 
 -- ---- the steps
 
@@ -95,6 +96,27 @@ handedIn t w (receive c ∷ rest) = handsOut t w c ++ handedIn t (next w (receiv
 abbrev pub HandsSealed : Setting → World → Call → Type 0
 HandsSealed t w c = (x : Item) → List·Memᴰ x (handsOut t w c) → List·Memᴰ x (map (λ (b : Sent). b .item) (w .sealed))
 
+-- the receiver's calls of the run
+unfoldable pub callsOf : List Step → List Call
+callsOf [] = []
+callsOf (build app random out ∷ rest) = callsOf rest
+callsOf (turn iv ∷ rest) = callsOf rest
+callsOf (seal i ∷ rest) = callsOf rest
+callsOf (receive c ∷ rest) = c ∷ callsOf rest
+
+-- the sender's calls of the run
+unfoldable pub sendsOf : List Step → List Sends.Send
+sendsOf [] = []
+sendsOf (build app random out ∷ rest) = Sends.build app random out ∷ sendsOf rest
+sendsOf (turn iv ∷ rest) = Sends.turnKey iv ∷ sendsOf rest
+sendsOf (seal i ∷ rest) = sendsOf rest
+sendsOf (receive c ∷ rest) = sendsOf rest
+
+-- the world after a run
+unfoldable pub worldAfter : World → List Step → World
+worldAfter w [] = w
+worldAfter w (x ∷ rest) = worldAfter (next w x) rest
+
 -- ---- the cipher and its user
 
 -- a cipher: its yes or no to a record under a key and a number, and on yes the text that it gives back
@@ -102,29 +124,38 @@ pub record Cipher (K : Type 0) : Type 0 where
   pub says : K → ℕ → List ℕ → Bool
   pub text : K → ℕ → List ℕ → List ℕ
 
--- the associated data of a record
+-- the associated data of a record, header included
 abbrev pub assocOf : Setting → List ℕ → List ℕ
 assocOf s r = take (assocEnd s r) r
 
--- the highest key count that either end had
+-- the highest key count that either end had: the key counts of the run so far are those up to it
 abbrev pub countsOf : World → ℕ
 countsOf w = max (w .sender .count) (w .receiver .count)
 
-module _ {K : Type 0} (C : Cipher K) (sendKey receiveKey : ℕ → K) where
-  -- what is asked of a Settle of the run, with the world before it
-  pub record Honest (w : World) (r : List ℕ) (count number : ℕ) (passed : Bool) (plain : List ℕ) : Type 0 where
-    -- both ends have the same key for each key count of the run
-    pub alike : (c : ℕ) → c ≤ countsOf w → sendKey c ≡ receiveKey c
-    -- among the key counts of the run, no key is used again after a change
-    pub no-reuse : (a b : ℕ) → a ≤ countsOf w → b ≤ countsOf w → sendKey a ≡ sendKey b → a ≡ b
-    -- Settle is given the cipher's own answer for the very record, key and number that it is called with, and on yes its text
-    pub own : passed ≡ C .says (receiveKey count) number r
-    pub own-text : passed ≡ true → plain ≡ C .text (receiveKey count) number r
-    -- the cipher says yes only to what was built and sealed before under that key and number, header included, and gives back that text
-    pub genuine : C .says (receiveKey count) number r ≡ true
-        → (b : Sent) × List·Memᴰ b (w .sealed) × (sendKey (b .item .count) ≡ receiveKey count) × (b .item .number ≡ number)
-        × (b .assoc ≡ assocOf (w .receiver .setting) r) × (b .text ≡ C .text (receiveKey count) number r)
+-- an earlier step sealed what our sender built under this key and this number, with these associated bytes and this text
+pub record SealedBefore {K : Type 0} (sendKey : ℕ → K) (w : World) (key : K) (number : ℕ) (assoc text : List ℕ) : Type 0 where
+  pub sent : Sent
+  pub earlier : List·Memᴰ sent (w .sealed)
+  pub under-key : sendKey (sent .item .count) ≡ key
+  pub under-number : sent .item .number ≡ number
+  pub same-assoc : sent .assoc ≡ assoc
+  pub same-text : sent .text ≡ text
 
+-- the key of each key count at the sender and at the receiver
+module _ {K : Type 0} (C : Cipher K) (sendKey receiveKey : ℕ → K) where
+  -- what is assumed of a Settle of the run, with the world that the steps before it left
+  pub record Honest (w : World) (r : List ℕ) (count number : ℕ) (passed : Bool) (plain : List ℕ) : Type 0 where
+    -- both ends are set alike: they have the same setting, and the same key for each key count of the run
+    pub alike : (w .sender .setting ≡ w .receiver .setting) × ((c : ℕ) → c ≤ countsOf w → sendKey c ≡ receiveKey c)
+    -- no key is used again after a change: among the key counts of the run equal keys have equal counts
+    pub no-reuse : (a b : ℕ) → a ≤ countsOf w → b ≤ countsOf w → sendKey a ≡ sendKey b → a ≡ b
+    -- Settle is given the cipher's own answer for the very record, key and number it is called with, and on yes the cipher's text
+    pub own : (passed ≡ C .says (receiveKey count) number r) × (passed ≡ true → plain ≡ C .text (receiveKey count) number r)
+    -- the cipher says yes only to what our sender built and sealed under that key and number, header included, and gives back that text
+    pub genuine : C .says (receiveKey count) number r ≡ true
+        → SealedBefore sendKey w (receiveKey count) number (assocOf (w .receiver .setting) r) (C .text (receiveKey count) number r)
+
+  -- it is assumed of the Settles only
   abbrev pub HonestCall : World → Call → Type 0
   HonestCall w (offer r slot) = Unit {0}
   HonestCall w (settle r slot count number passed plain) = Honest w r count number passed plain

@@ -12,3 +12,4 @@ pub mod Told
 pub mod Distinct
 pub mod Limits
 pub mod OneAnswer
+pub mod Again

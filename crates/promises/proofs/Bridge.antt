@@ -1,30 +1,33 @@
--- The bridge's fault: what becomes of a record whose number was marked, in every later state of the run.
+-- The bridge's fault: what becomes of a record whose number was marked, in every later state of the run, and of a key that was dropped.
 -- Assumes nothing.
-use Prim.Native.Nat.{ℕ, _+_, _-_, _%_, _≤_, _<_}
+use Prim.Native.Nat.{ℕ, _+_, _-_, _≤_, _<_}
 use mathlib.Core.Path.{_≡_, refl, ap, sym, _∙_, subst}
-use mathlib.Core.Logic.{_≢_, inl, inr}
+use mathlib.Core.Logic.{_≢_, _⊎_, inl, inr}
 use mathlib.Core.Bool.{Bool, true, false}
 use mathlib.Core.List.{List, [], _∷_, _++_}
 use native.Mathlib.Omega.{arith}
-use lib.Dec.{leb, ltb, eqb}
+use native.Mathlib.Decide.{decLt}
+use lib.Dec.{eqb}
 use lib.ListN.{length}
-use borrow.Author.Tests.{leb-true, le-leb, lt-leb, not-false}
+use borrow.Author.Tests.{not-false}
 use Rattle.channel.proofs.Outcome.{code-is, effect-is}
 use Rattle.answers.specs.Refusal.{authentic}
-use Rattle.answers.proofs.Tests.{true-not-false, by-cases}
+use Rattle.answers.proofs.Tests.{true-not-false, tells-eq, tells-or}
 use Rattle.answers.specs.Refusal as Refusal
 use Rattle.answers.proofs.Table.{first-past, first-stop, row-passed}
+use Rattle.answers.specs.Reasons.{Tells}
 use Rattle.answers.specs.Table.{first}
 use Rattle.channel.specs.Call.{Call, offer, settle, dropOld, Effect, stay, marking, turning, dropping, Outcome}
 use Rattle.channel.specs.Receiver.{newReceiver, zeroReceiver, badReceiver, look, change, answerTo, stateAfter, openReceiver}
 use Rattle.channel.specs.Rules.{stateRows, slotRows, placeRowsAt, offerRows, cipherRows, markingRows, rows, outcome, effectOf}
 use Rattle.channel.specs.View.{View, noKey, keyAt, countAt, numberAt}
 use Rattle.channel.specs.declared.receiver.Receiver.{Receiver}
-use Rattle.numbers.proofs.Laws.{member-below}
+use Rattle.numbers.proofs.Laws.{member-below, old-first, seen-first}
 use Rattle.numbers.specs.Contract.{widthOf}
 use Rattle.numbers.specs.Memory.{member}
-use Rattle.numbers.specs.Number.{whole, nearest, numberRows}
-use Rattle.record.specs.Header.{partialOf, numberOf}
+use Rattle.numbers.specs.Number.{numberRows}
+use Rattle.record.proofs.Again.{number-again, number-other}
+use Rattle.record.specs.Header.{numberOf}
 use Rattle.record.specs.Read.{recordRows, placeRows}
 use Rattle.record.specs.Setting.{badSetting, openRows, ruleOf}
 use Rattle.record.specs.declared.setting.Setting.{Setting}
@@ -35,44 +38,8 @@ use Rattle.promises.proofs.Passed.{slot-numbered, frame-numbered, Passe
 use Rattle.promises.proofs.Good.{good-parts, held-there}
 use Rattle.promises.proofs.Alike.{Alike}
 use Rattle.promises.proofs.Simulation.{Related, views, step-related, related-new}
-use Rattle.promises.proofs.Refusals.{zero-state}
+use Rattle.channel.proofs.Zeros.{zeros-refused}
 use Rattle.promises.proofs.Once.{Known, keysOf, known-now, known-older, kept, Sane, unknown, known-after, sane}
-
--- ---- the nearest number: its low 16 bits, where it lies, and that no other lies so
-
-off-eq : (e low n : ℕ) → n % 65536 ≡ low % 65536 → e ≤ n + 32768 → n ≤ e + 32767 → e + (low + 98304 - e % 65536) % 65536 ≡ n + 32768
-off-eq e low n c l u = omega arith
-
-pub near-only : (e low n : ℕ) → n % 65536 ≡ low % 65536 → e ≤ n + 32768 → n ≤ e + 32767 → nearest e low ≡ n
-unfolding nearest whole
-near-only e low n c l u =
-    let q : e + 32768 + (low + 98304 - e % 65536) % 65536 ≡ n + 65536 = omega (arith, off-eq e low n c l u) in
-    rw (q, le-leb 65536 (n + 65536) (omega arith)) (omega arith)
-
-near-low : (e low : ℕ) → nearest e low % 65536 ≡ low % 65536
-unfolding nearest whole
-near-low e low =
-    by-cases (λ (x : ℕ). x % 65536 ≡ low % 65536) (leb 65536 (e + 32768 + (low + 98304 - e % 65536) % 65536)) _ _
-    (λ h. let l : 65536 ≤ e + 32768 + (low + 98304 - e % 65536) % 65536 = leb-true _ _ h in omega arith)
-    (λ h. omega arith)
-
-near-above : (e low : ℕ) → e ≤ nearest e low + 32768
-unfolding nearest whole
-near-above e low =
-    by-cases (λ (x : ℕ). e ≤ x + 32768) (leb 65536 (e + 32768 + (low + 98304 - e % 65536) % 65536)) _ _
-    (λ h. let l : 65536 ≤ e + 32768 + (low + 98304 - e % 65536) % 65536 = leb-true _ _ h in omega arith)
-    (λ h. omega arith)
-
--- a record whose number was n has the number n under a later E that lies not too far above
-pub number-again : (s : Setting) (e f n : ℕ) (r : List ℕ) → n ≡ numberOf s e r → n < f → f ≤ n + 32768 → numberOf s f r ≡ n
-unfolding numberOf
-number-again s e f n r h a b =
-    near-only f (partialOf s r) n (rw h (near-low e (partialOf s r))) b (omega arith)
-
--- and another number where E lies further above
-pub number-other : (s : Setting) (f n : ℕ) (r : List ℕ) → n + 32768 < f → numberOf s f r ≢ n
-unfolding numberOf
-number-other s f n r h e = omega (arith, near-above f (partialOf s r))
 
 -- ---- runs of both receivers
 
@@ -131,13 +98,13 @@ seen-in p slot c n false e i k h q =
 -- ---- the answer to the record in that slot
 
 place-again : (w l e : ℕ) (seen : ℕ → Bool) (n : ℕ) → n < l → seen n ≡ true → RepeatOrOld (first (numberRows w l e seen n))
-unfolding numberRows
-place-again w l e seen n h m = go (ltb w (e - n)) refl
+place-again w l e seen n h m = go (decLt w (e - n))
   where
-    go : (b : Bool) → ltb w (e - n) ≡ b → RepeatOrOld (first (numberRows w l e seen n))
-    go true p = inr (rw (lt-leb l n h, p))
-    go false p = inl (rw (lt-leb l n h, p, m))
+    go : Dec (w < e - n) → RepeatOrOld (first (numberRows w l e seen n))
+    go (yes p) = inr (old-first w l e seen n h p)
+    go (no p) = inl (seen-first w l e seen n h (omega arith) ∙ rw m)
 
+-- a good state and a key in the slot pass the first checks
 pub slot-none : (v : View) (slot : ℕ) → v .bad ≡ false → noKey v slot ≡ false → first (slotRows v slot) ≡ 0
 unfolding slotRows stateRows
 slot-none v slot a b = rw (b, a)
@@ -167,7 +134,59 @@ module _ (v : View) (r : List ℕ) (slot n : ℕ) (good : v .bad ≡ false) (key
   unfolding rows
   settle-again count number′ passed plain =
       let o = offer-table in
-      rw (code-is v (settle r slot count number′ passed plain), first-stop (offerRows v r slot) (cipherRows v r slot count number′ passed plain ++ markingRows v r plain) (not-zero _ o)) o
+      let rest = cipherRows v r slot count number′ passed plain ++ markingRows v r plain in
+      rw (code-is v (settle r slot count number′ passed plain), first-stop (offerRows v r slot) rest (not-zero _ o)) o
+
+-- ---- a key that is gone: its count is passed, and the old slot, where it is held, has a higher one
+
+abbrev Gone : Receiver → ℕ → Type 0
+Gone x c = (c < x .count) × (x .held ≡ true → c + 1 < x .count)
+
+gone-change : (x : Receiver) (c : ℕ) (e : Effect) → Gone x c → Gone (change x e) c
+unfolding change
+gone-change x c stay g = g
+gone-change x c (marking slot n) g = g
+gone-change x c (turning iv) g = let l : c < x .count = g .0 in (omega arith, λ h. omega arith)
+gone-change x c dropping g = (g .0, λ h. absurd (true-not-false h refl))
+
+gone-run : (x : Receiver) (c : ℕ) (cs : List Call) → Gone x c → Gone (reached x cs) c
+unfolding reachBy afterBy
+gone-run x c [] g = g
+gone-run x c (k ∷ cs) g = gone-run _ c cs (gone-change x c (outcome (look x) k .effect) g)
+
+not-held : (x : Receiver) (c slot : ℕ) (b : Bool) → eqb slot 0 ≡ b → Gone x c → Holds x slot c → ⊥
+unfolding look
+not-held x c slot true e g (k, q) = let l : c < x .count = g .0 in let z : x .count ≡ c = rw e at q in omega arith
+not-held x c slot false e g (k, q) =
+    let l : c + 1 < x .count = g .1 (held-there (look x) slot k e) in
+    let z : x .count - 1 ≡ c = rw e at q in
+    omega arith
+
+drop-held : (x : Receiver) → answerTo x dropOld .code ≡ 0 → (x .held ≡ true) × (badReceiver x ≡ false) × (stateAfter x dropOld ≡ change x dropping)
+unfolding answerTo stateAfter rows stateRows look authentic effectOf
+drop-held x z =
+    let e : first (rows (look x) dropOld) ≡ 0 = sym (code-is (look x) dropOld) ∙ z in
+    (not-false _ (row-passed Refusal.Key (rows (look x) dropOld) tt e), row-passed Refusal.State (rows (look x) dropOld) tt e, rw (effect-is (look x) dropOld, z))
+
+-- where Drop is granted, the old slot holds a key: that is the one it drops
+pub drop-holds : (x : Receiver) → answerTo x dropOld .code ≡ 0 → Holds x 1 (x .count - 1)
+unfolding noKey look
+drop-holds x z = (rw (drop-held x z .0), refl)
+
+drop-gone : (x : Receiver) → answerTo x dropOld .code ≡ 0 → Gone (stateAfter x dropOld) (x .count - 1)
+unfolding change
+drop-gone x z =
+    let d = drop-held x z in
+    let l : 0 < x .count = good-parts x (d .1) .counted (d .0) in
+    rw (d .2) (omega arith, λ h. absurd (true-not-false h refl))
+
+-- once the key in the old slot is dropped, no slot holds it again
+pub dropped-for-ever : (x : Receiver) (c : ℕ) → Holds x 1 c → answerTo x dropOld .code ≡ 0 → (later : List Call) (slot : ℕ)
+    → Holds (reached (stateAfter x dropOld) later) slot c → ⊥
+unfolding look
+dropped-for-ever x c H z later slot =
+    let e : x .count - 1 ≡ c = H .1 in
+    not-held _ c slot (eqb slot 0) refl (gone-run _ c later (rw e at (drop-gone x z)))
 
 -- ---- after a Settle of r under c and n whose record was authentic
 
@@ -193,9 +212,20 @@ code-false k h = go (authentic k) refl
     go true e = absurd (h e)
     go false e = e
 
--- in a state of a run in which the plain receiver knows n under c, and r had the number n
+-- "0 or 14": the answers to an authentic record
+pub authentic-told : (k : ℕ) → Tells (authentic k) ((k ≡ 0) ⊎ (k ≡ Refusal.Inner))
+unfolding authentic Refusal.marks
+authentic-told k = tells-or (tells-eq k 0) (tells-eq k Refusal.Inner)
+
+-- the record r passed the frame's checks, and under E it was read as the number n, which is not spent
+record ReadAs (s : Setting) (e : ℕ) (r : List ℕ) (n : ℕ) : Type 0 where
+  framed : first (recordRows s r) ≡ 0
+  number : numberOf s e r ≡ n
+  spare : n < s .limit
+
+-- in a state of a run in which the plain receiver knows n under c, and r was read as n
 module _ (x : Receiver) (p : Plain) (B : Both x p) (r : List ℕ) (c n e : ℕ) (known : Known c n (keysOf p))
-    (framed : first (recordRows (p .setting) r) ≡ 0) (number : n ≡ numberOf (p .setting) e r) (spare : n < p .setting .limit) where
+    (was : ReadAs (p .setting) e r n) where
   plain-outcome : (k : Call) → outcome (look x) k ≡ outcome (plainLook p) k
   plain-outcome k = step-related x p k (B .related) .0
 
@@ -215,7 +245,7 @@ module _ (x : Receiver) (p : Plain) (B : Both x p) (r : List ℕ) (c n e : ℕ) 
       let s = seen-in p slot c n (eqb slot 0) refl (B .sane-plain) known k q in
       let f : nextIn x slot ≡ keyAt (plainLook p) slot .next = same-next (look x) (plainLook p) slot alike in
       let low : n < keyAt (plainLook p) slot .next = s .1 in
-      (k, number-again (p .setting) e (keyAt (plainLook p) slot .next) n r number low (omega arith), s .0)
+      (k, number-again (p .setting) e (keyAt (plainLook p) slot .next) n r (was .number) low (omega arith), s .0)
 
   barred : Barred x r c n
   unfolding answerTo plainLook look
@@ -226,12 +256,13 @@ module _ (x : Receiver) (p : Plain) (B : Both x p) (r : List ℕ) (c n e : ℕ) 
     offers = λ slot H l.
         let i = in-slot slot H l in
         subst (λ (o : Outcome). RepeatOrOld (o .answer .code)) (sym (plain-outcome (offer r slot)))
-        (offer-again (plainLook p) r slot n good (i .0) framed (i .1) spare (i .2));
+        (offer-again (plainLook p) r slot n good (i .0) (was .framed) (i .1) (was .spare) (i .2));
     settles = λ slot H l count number passed plain.
         let i = in-slot slot H l in
         subst (λ (o : Outcome). RepeatOrOld (o .answer .code)) (sym (plain-outcome (settle r slot count number passed plain)))
-        (settle-again (plainLook p) r slot n good (i .0) framed (i .1) spare (i .2) count number passed plain);
+        (settle-again (plainLook p) r slot n good (i .0) (was .framed) (i .1) (was .spare) (i .2) count number passed plain);
     other = λ slot l. number-other (x .setting) (nextIn x slot) n r (omega arith);
+    dropped = dropped-for-ever x c;
   }
 
 known-settled : (p : Plain) (r : List ℕ) (slot c n : ℕ) (passed : Bool) (plain : List ℕ) → Sane p
@@ -250,20 +281,11 @@ after-both : (x : Receiver) (p : Plain) (c : Call) (later : List Call) → Both 
 unfolding stateAfter afterBy
 after-both x p c later B = run-both _ _ later (step-both x p c B)
 
-plain-framed : (p : Plain) (r : List ℕ) (slot c n : ℕ) (passed : Bool) (plain : List ℕ) → Passed (plainLook p) r slot c n passed plain
-    → first (recordRows (p .setting) r) ≡ 0
+plain-read : (p : Plain) (r : List ℕ) (slot c n : ℕ) (passed : Bool) (plain : List ℕ) → Passed (plainLook p) r slot c n passed plain
+    → ReadAs (p .setting) (keyAt (plainLook p) slot .next) r n
 unfolding plainLook
-plain-framed p r slot c n passed plain P = P .framed
-
-plain-number : (p : Plain) (r : List ℕ) (slot c n : ℕ) (passed : Bool) (plain : List ℕ) → Passed (plainLook p) r slot c n passed plain
-    → n ≡ numberOf (p .setting) (keyAt (plainLook p) slot .next) r
-unfolding plainLook
-plain-number p r slot c n passed plain P = P .cipher .same-number
-
-plain-spare : (p : Plain) (r : List ℕ) (slot c n : ℕ) (passed : Bool) (plain : List ℕ) → Passed (plainLook p) r slot c n passed plain
-    → n < p .setting .limit
-unfolding plainLook
-plain-spare p r slot c n passed plain P = P .place .spare
+plain-read p r slot c n passed plain P =
+    record { framed = P .framed; number = sym (P .cipher .same-number); spare = P .place .spare }
 
 -- the Settle, and any later calls
 after-settle : (x : Receiver) (p : Plain) → Both x p → (r : List ℕ) (slot c n : ℕ) (passed : Bool) (plain : List ℕ)
@@ -280,20 +302,19 @@ after-settle x p B r slot c n passed plain t later =
     let q : plainReached p₁ later .setting ≡ p .setting = run-setting p₁ later ∙ after-setting p call in
     barred _ (plainReached p₁ later) (after-both x p call later B) r c n (keyAt (plainLook p) slot .next)
     (run-kept p₁ later k)
-    (subst (λ (s : Setting). first (recordRows s r) ≡ 0) (sym q) (plain-framed p r slot c n passed plain P))
-    (subst (λ (s : Setting). n ≡ numberOf s (keyAt (plainLook p) slot .next) r) (sym q) (plain-number p r slot c n passed plain P))
-    (subst (λ (s : Setting). n < s .limit) (sym q) (plain-spare p r slot c n passed plain P))
+    (subst (λ (s : Setting). ReadAs s (keyAt (plainLook p) slot .next) r n) (sym q) (plain-read p r slot c n passed plain P))
 
 -- from open: where the open was refused, no record is authentic
 zero-run : (cs : List Call) → reached zeroReceiver cs ≡ zeroReceiver
 unfolding reachBy afterBy stateAfter
 zero-run [] = refl
-zero-run (c ∷ cs) = ap (λ (y : Receiver). reached y cs) (zero-state c .1) ∙ zero-run cs
+zero-run (c ∷ cs) = ap (λ (y : Receiver). reached y cs) (zeros-refused c .1) ∙ zero-run cs
 
 state-plain : authentic Refusal.State ≡ false
 unfolding authentic Refusal.marks
 state-plain = refl
 
+-- what a Settle of r under c and n, answered with 0 or 14, leaves for ever
 pub barred-for-ever : (s : Setting) (iv : List ℕ) (before later : List Call) (r : List ℕ) (slot c n : ℕ) (passed : Bool) (plain : List ℕ)
     → authentic (answerTo (reached (openReceiver s iv .next) before) (settle r slot c n passed plain) .code) ≡ true
     → Barred (reached (stateAfter (reached (openReceiver s iv .next) before) (settle r slot c n passed plain)) later) r c n
@@ -303,54 +324,8 @@ barred-for-ever s iv before later r slot c n passed plain = go (badSetting s) re
     go : (b : Bool) → badSetting s ≡ b
         → authentic (answerTo (reached (openReceiver s iv .next) before) (settle r slot c n passed plain) .code) ≡ true
         → Barred (reached (stateAfter (reached (openReceiver s iv .next) before) (settle r slot c n passed plain)) later) r c n
-    go true e = rw (e, zero-run before, zero-state (settle r slot c n passed plain) .0) (λ t. absurd (true-not-false t state-plain))
+    go true e = rw (e, zero-run before, zeros-refused (settle r slot c n passed plain) .0) (λ t. absurd (true-not-false t state-plain))
     go false e =
         rw e (λ t. after-settle (reached (newReceiver s iv) before) (plainReached (newPlain s iv) before)
         (run-both (newReceiver s iv) (newPlain s iv) before (record { related = related-new s iv e; sane-plain = λ h. absurd (true-not-false h refl) }))
         r slot c n passed plain t later)
-
--- ---- a key that is gone: its count is passed, and the old slot, where it is held, has a higher one
-
-abbrev pub Gone : Receiver → ℕ → Type 0
-Gone x c = (c < x .count) × (x .held ≡ true → c + 1 < x .count)
-
-gone-change : (x : Receiver) (c : ℕ) (e : Effect) → Gone x c → Gone (change x e) c
-unfolding change
-gone-change x c stay g = g
-gone-change x c (marking slot n) g = g
-gone-change x c (turning iv) g = let l : c < x .count = g .0 in (omega arith, λ h. omega arith)
-gone-change x c dropping g = (g .0, λ h. absurd (true-not-false h refl))
-
-gone-run : (x : Receiver) (c : ℕ) (cs : List Call) → Gone x c → Gone (reached x cs) c
-unfolding reachBy afterBy
-gone-run x c [] g = g
-gone-run x c (k ∷ cs) g = gone-run _ c cs (gone-change x c (outcome (look x) k .effect) g)
-
-not-held : (x : Receiver) (c slot : ℕ) (b : Bool) → eqb slot 0 ≡ b → Gone x c → noKey (look x) slot ≡ false → countAt (look x) slot ≢ c
-unfolding look
-not-held x c slot true e g k q = let l : c < x .count = g .0 in let z : x .count ≡ c = rw e at q in omega arith
-not-held x c slot false e g k q =
-    let l : c + 1 < x .count = g .1 (held-there (look x) slot k e) in
-    let z : x .count - 1 ≡ c = rw e at q in
-    omega arith
-
-drop-held : (x : Receiver) → answerTo x dropOld .code ≡ 0 → (x .held ≡ true) × (badReceiver x ≡ false) × (stateAfter x dropOld ≡ change x dropping)
-unfolding answerTo stateAfter rows stateRows look authentic effectOf
-drop-held x z =
-    let e : first (rows (look x) dropOld) ≡ 0 = sym (code-is (look x) dropOld) ∙ z in
-    (not-false _ (row-passed Refusal.Key (rows (look x) dropOld) tt e), row-passed Refusal.State (rows (look x) dropOld) tt e, rw (effect-is (look x) dropOld, z))
-
-drop-gone : (x : Receiver) → answerTo x dropOld .code ≡ 0 → Gone (stateAfter x dropOld) (x .count - 1)
-unfolding change
-drop-gone x z =
-    let d = drop-held x z in
-    let l : 0 < x .count = good-parts x (d .1) .counted (d .0) in
-    rw (d .2) (omega arith, λ h. absurd (true-not-false h refl))
-
--- once the old key is dropped, no slot has its count again
-pub dropped-for-ever : (x : Receiver) (later : List Call) (slot : ℕ) → answerTo x dropOld .code ≡ 0
-    → noKey (look (reached (stateAfter x dropOld) later)) slot ≡ false
-    → countAt (look (reached (stateAfter x dropOld) later)) slot ≢ x .count - 1
-dropped-for-ever x later slot z =
-    not-held (reached (stateAfter x dropOld) later) (x .count - 1) slot (eqb slot 0) refl
-    (gone-run (stateAfter x dropOld) (x .count - 1) later (drop-gone x z))
