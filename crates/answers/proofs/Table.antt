@@ -1,7 +1,7 @@
 -- Laws of tables of checks: joined, read by the names of their refusals, and bounded.
 -- Assumes nothing.
 use Prim.Native.Nat.{ℕ, _≤_}
-use mathlib.Core.Bool.{Bool, true, false, not, cond, _&&_}
+use mathlib.Core.Bool.{Bool, true, false, not, cond, _&&_, _||_}
 use mathlib.Core.List.{List, [], _∷_, _++_}
 use mathlib.Core.Path.{_≡_, refl}
 use native.Mathlib.Omega.{arith}
@@ -97,7 +97,7 @@ quiet : (k : ℕ) → T (not (authentic k)) → marks k ≡ false
 unfolding authentic
 quiet k h = go (eqb k 0) (marks k) h
   where
-    go : (a b : Bool) → T (not (cond a true b)) → b ≡ false
+    go : (a b : Bool) → T (not (a || b)) → b ≡ false
     go true b h = absurd h
     go false true h = absurd h
     go false false h = refl

@@ -1,7 +1,7 @@
 -- The numbers of refusal, by the names of page 01. Use them by `use Rattle.answers.specs.Refusal as Refusal`: `Refusal.State`.
 -- Assumes nothing.
 use Prim.Native.Nat.{ℕ}
-use mathlib.Core.Bool.{Bool, true, cond}
+use mathlib.Core.Bool.{Bool, _||_}
 use lib.Dec.{eqb}
 
 abbrev pub State : ℕ
@@ -77,4 +77,4 @@ marks why = eqb why Inner
 
 -- the answers to an authentic record: 0, or a refusal that marks
 unfoldable pub authentic : ℕ → Bool
-authentic why = cond (eqb why 0) true (marks why)
+authentic why = eqb why 0 || marks why

@@ -25,7 +25,7 @@ pub use Rattle.numbers.proofs.Adaptor.{width-pos, width-le, width-half,
 pub use Rattle.numbers.proofs.Cases.{spent-first, old-first, seen-first, first-agree}
 pub use Rattle.numbers.proofs.Gaps.{gaps-agree}
 pub use Rattle.numbers.proofs.Memory.{member-below}
-pub use Rattle.numbers.proofs.Nearest.{nearest-low, nearest-again, near-exactly}
+pub use Rattle.numbers.proofs.Nearest.{nearest-low, nearest-again, nearest-cut, near-exactly}
 use Rattle.numbers.proofs.Word.{typed-of}
 use Rattle.numbers.proofs.Adaptor.{word-of, word-fits, window-of, marked-lt, after-next, after-word}
 use Rattle.numbers.proofs.Cases.{next-is}

@@ -111,6 +111,13 @@ nearest-again e low h =
     go (pos n) p q r = sym (near-is (max e (nearest e low + 1)) low (nearest e low) h (omega arith) (omega arith) (omega arith))
     go (negsuc k) p q r = sym (near-is (max e (nearest e low + 1)) low (nearest e low) h (omega arith) (omega arith) (omega arith))
 
+-- only the low 16 bits of what was given count
+pub nearest-cut : (e low : ℕ) → nearest e low ≡ nearest e (low % 65536)
+unfolding nearest whole
+nearest-cut e low =
+    let z : (low + 98304 - e % 65536) % 65536 ≡ (low % 65536 + 98304 - e % 65536) % 65536 = omega arith in
+    rw z
+
 -- ---- which numbers are found from their own low bits
 
 reached-only : (e n : ℕ) → nearest e (n % 65536) ≡ n → Reached e n

@@ -1,9 +1,15 @@
 pub mod Forms
 pub mod Sizes
 pub mod Writes
+pub mod Modes
+pub mod Fronts
+pub mod Offsets
+pub mod Passes
+pub mod Shown
 pub mod Page
 pub mod Zeros
 pub mod Told
 pub mod Distinct
 pub mod Limits
 pub mod OneAnswer
+pub mod Again

@@ -12,6 +12,7 @@ use Rattle.answers.specs.Refusal as Refusal
 use Rattle.answers.specs.Table.{first}
 use Rattle.answers.proofs.Table.{row-passed}
 use Rattle.octets.specs.Fields.{little}
+use Rattle.octets.proofs.Endian.{little-length}
 use Rattle.record.specs.declared.setting.Setting.{Setting}
 use Rattle.record.specs.declared.writer.Form.{Form}
 use Rattle.record.specs.Setting.{authOnly}
@@ -24,12 +25,13 @@ use Rattle.record.proofs.Writes.{head-length}
 
 -- the body is as long as its form says
 pub body-length : (s : Setting) (app random : List ℕ) → length (bodyOf s app random) ≡ bodyLen s (length app) (length random)
-unfolding bodyOf bodyLen innerLen
+unfolding bodyOf bodyLen
 body-length s app random = go (authOnly s)
   where
-    go : (b : Bool) → length (cond b app (little 2 (length app) ++ app ++ random)) ≡ cond b (length app) (2 + length app + length random)
+    go : (b : Bool) → length (cond b app (little (innerLen s) (length app) ++ app ++ random))
+        ≡ cond b (length app) (innerLen s + length app + length random)
     go true = refl
-    go false = simp length-append (omega arith)
+    go false = simp (length-append, little-length)
 
 -- what is written ends where the text ends
 pub front-length : (s : Setting) (number : ℕ) (app random : List ℕ) → length (frontOf s number app random) ≡ textEndFor s (length app) (length random)

@@ -1,0 +1,63 @@
+-- What a closed run of a receiver, a sender or both computes through: `unfolding computing` opens all of it.
+-- Assumes nothing.
+use Rattle.answers.specs.Refusal.{marks, authentic}
+use Rattle.channel.specs.Key.{isZeroKey}
+use Rattle.channel.specs.Receiver.{badReceiver, look, change}
+use Rattle.channel.specs.Rules.{stateRows, slotRows, offerRows, cipherRows, markingRows, rows, granted, effectOf, refused, outcome}
+use Rattle.channel.specs.Sender.{badSender, senderRows, buildRows, changeRows, buildOf, buildOut, changeSender}
+use Rattle.channel.specs.View.{noKey}
+use Rattle.numbers.specs.Contract.{widthOf, soundWindow, after, windowOf, seenBy, isEmpty}
+use Rattle.numbers.specs.Memory.{member, nextOf}
+use Rattle.numbers.specs.Number.{whole, nearest, count, gapCount, numberRows}
+use Rattle.numbers.specs.Window.{marked, markNext, markWord, sound}
+use Rattle.numbers.specs.Word.{bit, setBit, wordOf, marksOf}
+use Rattle.octets.specs.Fields.{field, blank}
+use Rattle.record.specs.Header.{sessionOf, partialOf, lengthOf, numberOf, headOf}
+use Rattle.record.specs.Nonce.{nonceOf, spread}
+use Rattle.record.specs.Read.{recordRows, placeRows}
+use Rattle.record.specs.Setting.{authOnly, badSetting, openRows, windowWidth}
+use Rattle.record.specs.Shape.{headLen, macLen, innerLen, mostLength, least, totalOf, startOf, textEnd, assocEnd, plainLen, dataPlace, dataLen, innerBad}
+use Rattle.record.specs.Write.{bodyLen, assocEndFor, formRows, roomRows, bodyOf, frontOf}
+use Rattle.promises.specs.Run.{afterBy, answersBy, markedBy, allMarked}
+use Rattle.promises.specs.Plain.{oldOf, plainLook, rememberFirst, plainChange}
+use Rattle.promises.specs.SendRun.{sending, usedBy, under, from}
+
+-- numbers
+unfoldable pub numbersOpen : Unit {0}
+unfolding whole nearest count gapCount numberRows member nextOf bit setBit wordOf marksOf
+numbersOpen = tt
+
+-- windows
+unfoldable pub windowsOpen : Unit {0}
+unfolding widthOf soundWindow after windowOf seenBy isEmpty marked markNext markWord sound
+windowsOpen = tt
+
+-- settings, and the checks of a record
+unfoldable pub readingOpen : Unit {0}
+unfolding field blank sessionOf partialOf lengthOf numberOf recordRows placeRows authOnly badSetting openRows windowWidth headLen macLen innerLen least totalOf
+readingOpen = tt
+
+-- the parts of a record, read and written
+unfoldable pub partsOpen : Unit {0}
+unfolding startOf textEnd assocEnd plainLen dataPlace dataLen innerBad nonceOf spread headOf mostLength bodyLen assocEndFor formRows roomRows bodyOf frontOf
+partsOpen = tt
+
+-- the receiver
+unfoldable pub receiverOpen : Unit {0}
+unfolding isZeroKey badReceiver look change noKey stateRows slotRows offerRows cipherRows markingRows rows granted effectOf refused outcome marks authentic
+receiverOpen = tt
+
+-- the sender
+unfoldable pub senderOpen : Unit {0}
+unfolding badSender senderRows buildRows changeRows buildOf buildOut changeSender
+senderOpen = tt
+
+-- runs
+unfoldable pub runsOpen : Unit {0}
+unfolding afterBy answersBy markedBy allMarked oldOf plainLook rememberFirst plainChange sending usedBy under from
+runsOpen = tt
+
+-- all of these
+unfoldable pub computing : Unit {0}
+unfolding numbersOpen windowsOpen readingOpen partsOpen receiverOpen senderOpen runsOpen
+computing = tt

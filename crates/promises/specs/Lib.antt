@@ -1,0 +1,16 @@
+pub mod Tools
+pub mod Run
+pub mod Plain
+pub mod SendRun
+pub mod World
+pub mod Toy
+pub mod Examples
+pub mod Premises
+pub mod ReadBack
+pub mod Laid
+pub mod Barred
+pub mod Marks
+pub mod Ways
+pub mod WrongReceivers
+pub mod WrongSenders
+pub mod WrongBuilds
