@@ -9,7 +9,7 @@ use lib.Dec.{T, eqb, leb}
 use borrow.Author.Tests.{leb-true, eq-eqb}
 use Rattle.answers.specs.Refusal.{marks, authentic}
 use Rattle.answers.specs.Table.{Check, first}
-use Rattle.answers.proofs.Tests.{true-not-false, both-true, by-cases}
+use Rattle.answers.proofs.Tests.{both-true, by-cases}
 
 -- ---- a test on the refusals of a table
 

@@ -5,7 +5,7 @@ use mathlib.Core.Bool.{Bool, true, false, not, cond, _&&_, _||_, false≢true}
 use mathlib.Core.Logic.{_⊎_, inl, inr}
 use mathlib.Core.Path.{_≡_, refl, sym, _∙_}
 use lib.Dec.{T, ltb, leb, eqb}
-use borrow.Author.Tests.{ltb-true, le-ltb, lt-ltb, leb-true, le-leb, eqb-true, eq-eqb}
+use borrow.Author.Tests.{not-true, not-false, ltb-true, lt-ltb, leb-true, le-leb, eqb-true, eq-eqb}
 use Rattle.answers.specs.Table.{differ}
 use Rattle.answers.specs.Reasons.{Tells}
 
@@ -20,6 +20,14 @@ pub or-neither : (a b : Bool) → (a || b) ≡ false → (a ≡ false) × (b ≡
 or-neither true b e = absurd (true-not-false refl e)
 or-neither false b e = (refl, e)
 
+pub or-true-left : (a b : Bool) → a ≡ true → (a || b) ≡ true
+or-true-left true b h = refl
+or-true-left false b h = absurd (true-not-false h refl)
+
+pub or-more : (a b : Bool) → b ≡ true → (a || b) ≡ true
+or-more true b h = refl
+or-more false b h = h
+
 -- a property of both branches is one of the whole
 pub by-cases : {A : Type 0} (P : A → Type 0) (b : Bool) (x y : A) → (b ≡ true → P x) → (b ≡ false → P y) → P (cond b x y)
 by-cases P true x y f g = f refl
@@ -29,6 +37,9 @@ by-cases P false x y f g = g refl
 
 pub tells-true : (b : Bool) → Tells b (b ≡ true)
 tells-true b = record { holds = λ e. e; fails = λ e p. true-not-false p e }
+
+pub tells-false : (b : Bool) → Tells (not b) (b ≡ false)
+tells-false b = record { holds = not-true b; fails = λ e p. true-not-false (not-false b e) p }
 
 pub tells-lt : (a b : ℕ) → Tells (ltb a b) (a < b)
 tells-lt a b = record { holds = ltb-true a b; fails = λ e p. true-not-false (lt-ltb a b p) e }

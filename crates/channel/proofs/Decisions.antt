@@ -8,7 +8,7 @@ use mathlib.Core.Path.{_≡_, refl, sym}
 use Rattle.answers.specs.Table.{first}
 use Rattle.answers.specs.Reasons.{Tells, Told, Decided}
 use Rattle.answers.proofs.Reasons.{told-row, told-join, decided}
-use Rattle.answers.proofs.Tests.{tells-true, tells-lt, tells-eq, tells-not, tells-or, tells-and, tells-differ}
+use Rattle.answers.proofs.Tests.{tells-false, tells-true, tells-lt, tells-eq, tells-not, tells-or, tells-and, tells-differ}
 use Rattle.answers.proofs.Given.{why-is}
 use Rattle.numbers.proofs.Told.{number-told, unsound-told}
 use Rattle.record.specs.declared.setting.Setting.{Setting}
@@ -29,7 +29,7 @@ use Rattle.channel.specs.Receiver.{newReceiver, zeroReceiver, badReceive
 use Rattle.channel.specs.Sender.{newSender, zeroSender, badSender, senderRows, buildRows, changeRows, openSender, noBuild, built, buildOf, turnTo, changeSender}
 use Rattle.channel.specs.Reasons.{BadReceiver, BadSender, slotReasons, placeReasons, offerReasons, reasons, buildReasons, changeReasons}
 use Rattle.channel.proofs.Outcome.{code-of}
-use Rattle.channel.proofs.Zeros.{TypedKey, tells-false, zero-key}
+use Rattle.channel.proofs.Zeros.{TypedKey, zero-key}
 
 -- ---- State
 

@@ -1,17 +1,16 @@
 -- The zeros of a key, a sender and a receiver: what an opened state never is, and what every call refuses as State.
 -- Assumes nothing.
 use Prim.Native.Nat.{ℕ}
-use mathlib.Core.Bool.{Bool, true, false, not}
+use mathlib.Core.Bool.{true}
 use mathlib.Core.List.{List}
 use mathlib.Core.Path.{_≡_, refl, ap}
 use native.Mathlib.Omega.{arith}
 use lib.ListN.{length}
-use borrow.Author.Tests.{not-true, not-false}
 use Rattle.answers.specs.Refusal as Refusal
 use Rattle.answers.specs.Refusal.{marks}
 use Rattle.answers.specs.Table.{first}
 use Rattle.answers.specs.Reasons.{Tells}
-use Rattle.answers.proofs.Tests.{true-not-false, tells-eq, tells-and}
+use Rattle.answers.proofs.Tests.{tells-false, tells-eq, tells-and}
 use Rattle.octets.proofs.Blank.{blank-list}
 use Rattle.numbers.proofs.Laws.{Typed}
 use Rattle.numbers.proofs.Told.{empty-told}
@@ -27,10 +26,6 @@ use Rattle.channel.specs.Receiver.{newReceiver, zeroReceiver, isZeroRece
 use Rattle.channel.specs.Rules.{rows}
 use Rattle.channel.specs.Sender.{newSender, zeroSender, isZeroSender, badSender, senderRows, buildRows, changeRows, noBuild, buildOf, buildOut, changeSender}
 use Rattle.channel.proofs.Outcome.{bad-first, answer-no, after-no}
-
--- a test that fails tells that it is false
-pub tells-false : (b : Bool) → Tells (not b) (b ≡ false)
-tells-false b = record { holds = not-true b; fails = λ e p. true-not-false (not-false b e) p }
 
 -- what the declared type says of a key
 pub record TypedKey (k : Key) : Type 0 where

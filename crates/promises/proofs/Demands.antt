@@ -25,7 +25,7 @@ use Rattle.record.specs.Nonce.{zeros12}
 use Rattle.record.specs.Shape.{macLen}
 use Rattle.record.specs.View.{viewOf}
 use Rattle.record.specs.declared.setting.Setting.{Setting}
-use Rattle.promises.specs.Tools.{Distinct}
+use Rattle.promises.specs.Distinct.{Distinct}
 use Rattle.promises.specs.Marks.{MarksJust, Marked}
 use Rattle.promises.specs.Run.{answersOf, reached, allMarked, pairOf, allHanded}
 use Rattle.promises.specs.Plain.{openPlain, plainAnswers}

@@ -12,7 +12,7 @@ use Rattle.numbers.proofs.Laws.{seen-after, next-after}
 use Rattle.channel.proofs.Outcome.{effect-is}
 use Rattle.answers.specs.Refusal as Refusal
 use Rattle.answers.specs.Refusal.{authentic}
-use Rattle.answers.proofs.Tests.{true-not-false}
+use Rattle.answers.proofs.Tests.{true-not-false, or-more}
 use Rattle.channel.specs.Call.{Call, offer, settle, gaps, changeKey, dropOld, only, marking}
 use Rattle.channel.specs.Receiver.{look, change, answerTo, stateAfter}
 use Rattle.channel.specs.Rules.{effectOf}
@@ -25,7 +25,6 @@ use Rattle.record.specs.declared.setting.Setting.{Setting}
 use Rattle.promises.proofs.Passed.{PlaceIn, settle-passed}
 use Rattle.promises.proofs.Good.{Good, good-parts}
 use Rattle.promises.proofs.Refused.{refused-zeros, refused-keeps, offer-plain, gaps-plain, change-plain, drop-plain}
-use Rattle.promises.specs.Tools.{or-more}
 use Rattle.promises.specs.Marks.{Marked}
 use Rattle.promises.specs.Marks.{MarksJust}
 

@@ -11,7 +11,7 @@ use lib.ListN.{length}
 use borrow.Author.Tests.{eq-eqb}
 use Rattle.channel.proofs.Outcome.{effect-is}
 use Rattle.answers.specs.Refusal.{authentic}
-use Rattle.answers.proofs.Tests.{true-not-false, by-cases}
+use Rattle.answers.proofs.Tests.{true-not-false, by-cases, or-true-left, or-more}
 use Rattle.answers.specs.Refusal as Refusal
 use Rattle.channel.specs.Call.{Call, offer, settle, gaps, changeKey, dropOld, Answer, Effect, stay, marking, turning, dropping, Outcome}
 use Rattle.channel.specs.Receiver.{openReceiver}
@@ -19,7 +19,7 @@ use Rattle.channel.specs.Rules.{outcome, effectOf}
 use Rattle.numbers.specs.Memory.{member}
 use Rattle.record.specs.Setting.{badSetting}
 use Rattle.record.specs.declared.setting.Setting.{Setting}
-use Rattle.promises.specs.Tools.{Distinct, none, more, or-true-left, or-more}
+use Rattle.promises.specs.Distinct.{Distinct, none, more}
 use Rattle.promises.specs.Run.{afterBy, answersBy, answersOf, markedBy, allMarked, Item, pairOf, handedBy, allHanded}
 use Rattle.promises.specs.Plain.{PlainKey, Plain, openPlain, oldOf, plainLook, remember, rememberFirst, plainChange, plainAnswers}
 use Rattle.promises.proofs.Passed.{Passed, settle-passed}

@@ -28,7 +28,7 @@ use Rattle.record.specs.Setting.{badSetting, openRows}
 use Rattle.record.specs.Shape.{dataPlace, dataLen}
 use Rattle.record.specs.View.{viewOf}
 use Rattle.record.specs.declared.setting.Setting.{Setting}
-use Rattle.promises.specs.Tools.{Distinct}
+use Rattle.promises.specs.Distinct.{Distinct}
 use Rattle.promises.specs.Run.{afterBy, answersBy, answersOf, Item, pairOf, handedBy, allHanded}
 use Rattle.promises.specs.World.{Step, build, turn, seal, receive, Sent, World, sentOf, at, next, start, Each, handedIn, HandsSealed, callsOf, Cipher, Honest, HonestCall}
 use Rattle.promises.proofs.Passed.{Passed, settle-passed}

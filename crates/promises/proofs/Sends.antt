@@ -17,7 +17,7 @@ use Rattle.channel.specs.declared.sender.Sender.{Sender}
 use Rattle.channel.specs.declared.sender.SenderStep.{SenderStep}
 use Rattle.record.specs.Setting.{openRows}
 use Rattle.record.specs.declared.setting.Setting.{Setting}
-use Rattle.promises.specs.Tools.{Distinct, none, more}
+use Rattle.promises.specs.Distinct.{Distinct, none, more}
 use Rattle.promises.specs.SendRun.{Send, build, turnKey, failed, sending, usedBy, used, sentBy, senderAfter, turnsBy, turnsIn, under, buildsUnder, from}
 
 -- ---- one call

@@ -7,7 +7,7 @@ use mathlib.Core.List.{List, [], _∷_, map, List·Memᴰ, List·Memᴰ·head, L
 use lib.Dec.{eqb}
 use borrow.Author.Tests.{eq-eqb, eqb-true}
 use Rattle.channel.specs.Call.{Call, Answer}
-use Rattle.promises.specs.Tools.{Distinct, more}
+use Rattle.promises.specs.Distinct.{Distinct, more}
 use Rattle.promises.specs.Run.{allMarked}
 use Rattle.promises.specs.Plain.{openPlain, plainAnswers}
 use Rattle.promises.specs.Ways.{Fails, Receives, rightReceives, answersIn, T1, T2}

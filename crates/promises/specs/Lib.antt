@@ -1,4 +1,4 @@
-pub mod Tools
+pub mod Distinct
 pub mod Run
 pub mod Plain
 pub mod SendRun

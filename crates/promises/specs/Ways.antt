@@ -14,7 +14,7 @@ use Rattle.channel.specs.declared.sender.Built.{Built}
 use Rattle.channel.specs.declared.sender.Sender.{Sender}
 use Rattle.record.specs.Shape.{macLen}
 use Rattle.record.specs.declared.setting.Setting.{Setting}
-use Rattle.promises.specs.Tools.{Distinct}
+use Rattle.promises.specs.Distinct.{Distinct}
 use Rattle.promises.specs.Run.{answersBy, allMarked}
 use Rattle.promises.specs.Plain.{openPlain, plainAnswers}
 use Rattle.promises.specs.SendRun.{Send, Sending, usedBy, under, from}
