@@ -16,6 +16,8 @@
 #[cfg(feature = "std")]
 extern crate std;
 
+#[allow(missing_docs)]
+mod calls;
 pub mod raw;
 mod receiver;
 mod refusal;
@@ -23,7 +25,7 @@ mod sender;
 pub mod wrapping;
 
 pub use raw::Setting;
-pub use receiver::{view, Offered, Receiver};
+pub use receiver::{Offered, Receiver};
 pub use refusal::Refusal;
 pub use sender::{Built, Sender};
 

@@ -1,6 +1,9 @@
-//! The boundary itself: the structs as they lie in memory, and the exported functions. A state may
-//! hold any value; a call on one that no call returned answers [`crate::Refusal::State`].
+//! The boundary itself: the structs as they lie in memory, and its calls by value, with the answer's
+//! number as it is. A state may hold any value; a call on one that no call returned answers 1, State.
+//! [`crate::Sender`] and [`crate::Receiver`] keep the state and turn numbers into results.
 #![allow(missing_docs)]
+
+pub use crate::calls::{body_of, read_data, read_message, record_of, view, wrap_data, wrap_record};
 
 #[repr(C)]
 #[derive(Clone, Copy, Debug, Default, PartialEq, Eq)]
@@ -121,43 +124,4 @@ pub struct Data {
     pub answer: u8,
     pub integrity: bool,
     pub kind: u8,
-}
-
-/// A lent part as the boundary hands it back: where it starts and how long it is.
-#[repr(C)]
-#[derive(Clone, Copy, Debug)]
-pub(crate) struct Part {
-    bytes: *const u8,
-    len: usize,
-}
-
-impl Part {
-    pub(crate) const NONE: Part = Part { bytes: core::ptr::NonNull::dangling().as_ptr(), len: 0 };
-
-    /// # Safety
-    /// The part lies in a slice that lives for `'a`.
-    pub(crate) unsafe fn lent<'a>(self) -> &'a [u8] {
-        core::slice::from_raw_parts(self.bytes, self.len)
-    }
-}
-
-type Bytes = *const u8;
-
-extern "C" {
-    pub(crate) fn husk_open_sender(setting: Setting, iv: Iv) -> SenderStep;
-    pub(crate) fn husk_build(sender: Sender, app: Bytes, app_len: usize, random: Bytes, random_len: usize, out: *mut u8, out_len: usize) -> Built;
-    pub(crate) fn husk_change_sender(sender: Sender, iv: Iv) -> SenderStep;
-    pub(crate) fn husk_open_receiver(setting: Setting, iv: Iv) -> ReceiverStep;
-    pub(crate) fn husk_gaps(receiver: Receiver, slot: u8) -> Counted;
-    pub(crate) fn husk_offer(receiver: Receiver, rec: Bytes, rec_len: usize, slot: u8) -> Offered;
-    pub(crate) fn husk_settle(receiver: Receiver, rec: Bytes, rec_len: usize, slot: u8, count: u32, number: u64, yes: u8, plain: Bytes, plain_len: usize) -> Settled;
-    pub(crate) fn husk_change_receiver(receiver: Receiver, iv: Iv) -> ReceiverStep;
-    pub(crate) fn husk_drop(receiver: Receiver) -> ReceiverStep;
-    pub(crate) fn husk_view(mode: u8, place: u64, len: u64, rec: Bytes, rec_len: usize, plain: Bytes, plain_len: usize, out: *mut Part);
-    pub(crate) fn husk_wrap_data(integrity: u8, kind: u8, body: Bytes, body_len: usize, out: *mut u8, out_len: usize) -> Wrote;
-    pub(crate) fn husk_read_data(app: Bytes, app_len: usize) -> Data;
-    pub(crate) fn husk_body_of(app: Bytes, app_len: usize, out: *mut Part);
-    pub(crate) fn husk_wrap_record(rec: Bytes, rec_len: usize, out: *mut u8, out_len: usize) -> Wrote;
-    pub(crate) fn husk_read_message(message: Bytes, message_len: usize) -> u8;
-    pub(crate) fn husk_record_of(message: Bytes, message_len: usize, out: *mut Part);
 }

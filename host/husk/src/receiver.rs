@@ -1,5 +1,5 @@
 //! The receiver, and the view of its data.
-use crate::raw::{self, Iv, Part, Setting};
+use crate::raw::{self, view, Setting};
 use crate::Refusal;
 
 /// The receiving end of a channel.
@@ -27,22 +27,19 @@ pub struct Offered {
 impl Receiver {
     /// A new channel.
     pub fn open(setting: Setting, iv: [u8; 12]) -> Result<Receiver, Refusal> {
-        // SAFETY: plain data by value.
-        let step = unsafe { raw::husk_open_receiver(setting, Iv { bytes: iv }) };
+        let step = raw::Receiver::open(setting, iv);
         Refusal::answer(step.answer).map(|()| Receiver { state: step.next })
     }
 
     /// How many of the last numbers are missing under the slot's key.
     pub fn gaps(&self, slot: u8) -> Result<u32, Refusal> {
-        // SAFETY: plain data by value.
-        let counted = unsafe { raw::husk_gaps(self.state, slot) };
+        let counted = self.state.gaps(slot);
         Refusal::answer(counted.answer).map(|()| counted.gaps)
     }
 
     /// What the cipher is to check. It changes nothing.
     pub fn offer(&self, rec: &[u8], slot: u8) -> Result<Offered, Refusal> {
-        // SAFETY: the pointer comes with the length of its slice.
-        let offered = unsafe { raw::husk_offer(self.state, rec.as_ptr(), rec.len(), slot) };
+        let offered = self.state.offer(rec, slot);
         Refusal::answer(offered.answer).map(|()| Offered {
             count: offered.count,
             number: offered.number,
@@ -64,26 +61,21 @@ impl Receiver {
         plain: &'a [u8],
     ) -> Result<&'a [u8], Refusal> {
         let mode = self.state.setting.mode;
-        // SAFETY: each pointer comes with the length of its slice.
-        let settled = unsafe {
-            raw::husk_settle(self.state, rec.as_ptr(), rec.len(), slot, count, number, u8::from(yes), plain.as_ptr(), plain.len())
-        };
+        let settled = self.state.settle(rec, slot, count, number, u8::from(yes), plain);
         self.state = settled.next;
         Refusal::answer(settled.answer).map(|()| view(mode, settled.place, settled.length, rec, plain))
     }
 
     /// A new key: the current one becomes the old one, with its window.
     pub fn change_key(&mut self, iv: [u8; 12]) -> Result<(), Refusal> {
-        // SAFETY: plain data by value.
-        let step = unsafe { raw::husk_change_receiver(self.state, Iv { bytes: iv }) };
+        let step = self.state.change_key(iv);
         self.state = step.next;
         Refusal::answer(step.answer)
     }
 
     /// Forgets the old key. The host decides when (KT1).
     pub fn drop_old(&mut self) -> Result<(), Refusal> {
-        // SAFETY: plain data by value.
-        let step = unsafe { raw::husk_drop(self.state) };
+        let step = self.state.drop_old();
         self.state = step.next;
         Refusal::answer(step.answer)
     }
@@ -96,16 +88,5 @@ impl Receiver {
     /// A receiver with this state. Any value is taken; the calls refuse those that they never return.
     pub fn from_state(state: raw::Receiver) -> Receiver {
         Receiver { state }
-    }
-}
-
-/// The part of `rec` (mode 0) or of `plain` (mode 1) from `place`, `len` bytes long; empty for
-/// another mode, or where it does not fit.
-pub fn view<'a>(mode: u8, place: u64, len: u64, rec: &'a [u8], plain: &'a [u8]) -> &'a [u8] {
-    let mut part = Part::NONE;
-    // SAFETY: each pointer comes with the length of its slice, and the part lies in one of them.
-    unsafe {
-        raw::husk_view(mode, place, len, rec.as_ptr(), rec.len(), plain.as_ptr(), plain.len(), &mut part);
-        part.lent()
     }
 }

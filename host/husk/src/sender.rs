@@ -1,5 +1,5 @@
 //! The sender.
-use crate::raw::{self, Iv, Setting};
+use crate::raw::{self, Setting};
 use crate::Refusal;
 
 /// The sending end of a channel.
@@ -27,18 +27,14 @@ pub struct Built {
 impl Sender {
     /// A new channel.
     pub fn open(setting: Setting, iv: [u8; 12]) -> Result<Sender, Refusal> {
-        // SAFETY: plain data by value.
-        let step = unsafe { raw::husk_open_sender(setting, Iv { bytes: iv }) };
+        let step = raw::Sender::open(setting, iv);
         Refusal::answer(step.answer).map(|()| Sender { state: step.next })
     }
 
     /// Writes all of a record but its MAC at the start of `out`. The number is spent, whatever the
     /// cipher then does.
     pub fn build(&mut self, app: &[u8], random: &[u8], out: &mut [u8]) -> Result<Built, Refusal> {
-        // SAFETY: each pointer comes with the length of its slice, and `out` is lent alone.
-        let built = unsafe {
-            raw::husk_build(self.state, app.as_ptr(), app.len(), random.as_ptr(), random.len(), out.as_mut_ptr(), out.len())
-        };
+        let built = self.state.build(app, random, out);
         self.state = built.next;
         Refusal::answer(built.answer).map(|()| Built {
             number: built.number,
@@ -51,8 +47,7 @@ impl Sender {
 
     /// A new key: its IV, and the numbers from 0 again.
     pub fn change_key(&mut self, iv: [u8; 12]) -> Result<(), Refusal> {
-        // SAFETY: plain data by value.
-        let step = unsafe { raw::husk_change_sender(self.state, Iv { bytes: iv }) };
+        let step = self.state.change_key(iv);
         self.state = step.next;
         Refusal::answer(step.answer)
     }
