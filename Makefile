@@ -10,7 +10,7 @@ CARGO := cargo
 CC := gcc
 RUN :=
 else
-CARGO := RUSTC=/usr/bin/rustc /usr/bin/cargo
+CARGO := RUSTC=/usr/bin/rustc cargo
 CC := x86_64-linux-gnu-gcc
 RUN := qemu-x86_64
 export CARGO_TARGET_X86_64_UNKNOWN_LINUX_GNU_LINKER := x86_64-linux-gnu-gcc
