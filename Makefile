@@ -36,10 +36,11 @@ host: archive
 	mkdir -p $(BUILD)
 	$(CC) $(CFLAGS) examples/c/layout.c $(ARCHIVE) -o $(BUILD)/layout && $(RUN) $(BUILD)/layout
 	$(CC) $(CFLAGS) examples/c/bay.c $(ARCHIVE) -o $(BUILD)/bay && $(RUN) $(BUILD)/bay
+	CC='$(CC)' RUN='$(RUN)' CARGO='$(CARGO)' TARGET=$(X86) tools/guide.sh
 
 # A bay of sixteen boards, with real records. It takes a few seconds under an emulator.
 demo: archive
-	$(CARGO) run -q $(CARGO_FLAGS) -p demo
+	@$(CARGO) run -q $(CARGO_FLAGS) -p demo
 
 setup:
 	tools/setup.sh
