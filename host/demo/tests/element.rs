@@ -66,7 +66,7 @@ fn late_records_of_the_old_key_are_its_own() {
     pair.deliver(&zero, 3, 1, 0);
     pair.deliver(&one, 3, 2, 0);
     pair.deliver(&new_zero, 3, 3, 0);
-    // The old key knows its numbers no more when it is dropped: number 1 is now ahead, and the cipher says no.
+    // Dropped, the old key answers no more: number 1 is ahead of the new key, and the cipher says no.
     pair.element.drop_old().unwrap();
     pair.deliver(&one, 3, 3, 1);
     assert_eq!(pair.element.drop_old(), Err(Refusal::Key));
