@@ -1,6 +1,6 @@
 # `make test` is the gate: .ci/run runs nothing else, and its last line is rt's own 'N passed, 0 failed'.
 .DEFAULT_GOAL := help
-.PHONY: help test host examples soak memcheck setup archive clean
+.PHONY: help test demo host examples soak memcheck setup archive clean
 
 # The archive is for x86-64. On another processor the host's programs are cross-built and emulated.
 X86 := x86_64-unknown-linux-gnu
@@ -24,6 +24,7 @@ endif
 CARGO_FLAGS := $(HOST) --target $(X86)
 
 help:
+	@echo 'make demo      a bay of sixteen boards of which nine hang; prints the sheet'
 	@echo 'make test      prove everything, run the host tests: the gate'
 	@echo 'make soak      compare with the reference: CALLS=100000000, or as many as SECONDS=.. allow'
 	@echo 'make memcheck  the C example and a short comparison, each access checked'
@@ -33,6 +34,10 @@ test:
 	rt fmt --check
 	$(MAKE) --no-print-directory host
 	rt ci
+
+# A bay of sixteen boards, with real records. It takes a few seconds under an emulator.
+demo: archive
+	@$(CARGO) run -q $(CARGO_FLAGS) -p demo
 
 # The host's tests, over the archive of the proved functions; the reference's own need no archive.
 host: archive
@@ -44,6 +49,7 @@ examples:
 	mkdir -p $(BUILD)
 	$(CC) $(CFLAGS) examples/c/layout.c $(ARCHIVE) -o $(BUILD)/layout && $(RUN) $(BUILD)/layout
 	$(CC) $(CFLAGS) examples/c/bay.c $(ARCHIVE) -o $(BUILD)/bay && $(RUN) $(BUILD)/bay
+	CC='$(CC)' RUN='$(RUN)' CARGO='$(CARGO)' TARGET=$(X86) tools/guide.sh
 
 CALLS ?= 100000000
 SECONDS ?= 86400

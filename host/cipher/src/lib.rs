@@ -1,5 +1,5 @@
 //! The cipher of a host: AES-256-GCM and ChaCha20-Poly1305, with a nonce of twelve bytes and a tag of
-//! sixteen, by OpenSSL's libcrypto (1.1.0 or later).
+//! sixteen, by OpenSSL's libcrypto.
 //!
 //! A board has its crypto block for this. The host's programs use this crate in its place: after a
 //! build they [`Aead::seal`], and between an offer and its settle they [`Aead::open`].
