@@ -8,6 +8,7 @@ ghost use Rattle.channel.specs.Receiver.{change, offered, settled, offer
 ghost use Rattle.channel.specs.Look.{noLook, lookOf};
 
 // assoc and text are the ends of the associated data and of the text.
+#[repr(C)]
 pub struct Offered {
     pub answer: u8,
     pub count: u32,
@@ -18,6 +19,7 @@ pub struct Offered {
 }
 
 // place and length are those of the application data.
+#[repr(C)]
 pub struct Settled {
     pub answer: u8,
     pub place: u64,

@@ -7,6 +7,7 @@ ghost use Rattle.numbers.specs.Contract.{soundWindow};
 ghost use Rattle.channel.specs.Key.{newKey, zeroKey, isZeroKey, remark};
 
 // Its IV and its window.
+#[repr(C)]
 pub struct Key {
     pub iv: [u8; 12],
     pub window: Window,

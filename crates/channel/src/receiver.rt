@@ -8,6 +8,7 @@ ghost use Rattle.channel.specs.Call.{only};
 ghost use Rattle.channel.specs.Receiver.{newReceiver, badReceiver, look, keyOf, counted, changed, openReceiver, gapsOf, changeReceiver, dropOf};
 
 // count is the key count. The old key is there where held is true, else its fields are zeros.
+#[repr(C)]
 pub struct Receiver {
     pub setting: Setting,
     pub count: u32,
@@ -16,12 +17,14 @@ pub struct Receiver {
     pub old: Key,
 }
 
+#[repr(C)]
 pub struct Counted {
     pub answer: u8,
     pub gaps: u32,
 }
 
 // The answer to a call that gives the next state back and nothing else.
+#[repr(C)]
 pub struct ReceiverStep {
     pub answer: u8,
     pub next: Receiver,

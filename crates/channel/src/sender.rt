@@ -8,6 +8,7 @@ ghost use lib.ListN.{length};
 ghost use Rattle.channel.specs.Sender.{newSender, badSender, openSender, noBuild, buildOf, buildOut, changeSender};
 
 // count is the key count, next the number of the next record.
+#[repr(C)]
 pub struct Sender {
     pub setting: Setting,
     pub count: u32,
@@ -16,12 +17,14 @@ pub struct Sender {
 }
 
 // The answer to a call that gives the next state back and nothing else.
+#[repr(C)]
 pub struct SenderStep {
     pub answer: u8,
     pub next: Sender,
 }
 
 // assoc, text and total are the ends of the associated data, of the text and of the record.
+#[repr(C)]
 pub struct Built {
     pub answer: u8,
     pub number: u64,

@@ -35,6 +35,7 @@ fn kind_of(byte: u8) -> u8
 }
 
 // What is read of application data before its body.
+#[repr(C)]
 pub struct Data {
     pub answer: u8,
     pub integrity: bool,

@@ -5,6 +5,7 @@ ghost use mathlib.Core.List.{_∷_};
 ghost use Rattle.mctp.specs.Led.{noneWrote, roomRows, writes, behind};
 
 // What a writer answers: 0 and how many bytes it wrote, or a refusal and 0.
+#[repr(C)]
 pub struct Wrote {
     pub answer: u8,
     pub length: u64,

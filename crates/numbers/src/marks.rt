@@ -6,6 +6,7 @@ ghost use lib.Dec.{eqb};
 ghost use lib.Count.{ones};
 ghost use Rattle.numbers.specs.Word.{most, bit, setBit, wordOf, marksOf};
 
+#[repr(C)]
 pub struct Marks {
     pub word: u64,
 }

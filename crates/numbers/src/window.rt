@@ -14,6 +14,7 @@ pub struct Rule {
 
 // next is one more than the highest number marked, 0 where none is. Bit i of marks is set where
 // next - 1 - i is marked.
+#[repr(C)]
 pub struct Window {
     pub next: u64,
     pub marks: Marks,

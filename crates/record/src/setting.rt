@@ -6,6 +6,7 @@ ghost use Rattle.record.specs.Setting.{zeroSetting, authOnly, badSetting
 
 // Mode 0 is message authentication only, mode 1 encryption and authentication. Usable numbers are
 // those below the limit.
+#[repr(C)]
 pub struct Setting {
     pub mode: u8,
     pub session: u32,

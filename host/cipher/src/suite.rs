@@ -1,0 +1,24 @@
+//! The two ciphers.
+use crate::evp;
+
+/// Which cipher a key is for.
+#[derive(Clone, Copy, Debug, PartialEq, Eq, Hash)]
+pub enum Suite {
+    /// AES with a key of 256 bits, in Galois/Counter Mode.
+    Aes256Gcm,
+    /// ChaCha20 and Poly1305, as RFC 8439 joins them.
+    ChaCha20Poly1305,
+}
+
+impl Suite {
+    /// libcrypto's description of the cipher, which is never freed.
+    pub(crate) fn description(self) -> *const evp::Cipher {
+        // SAFETY: both take nothing and answer a pointer to a constant of the library.
+        unsafe {
+            match self {
+                Suite::Aes256Gcm => evp::EVP_aes_256_gcm(),
+                Suite::ChaCha20Poly1305 => evp::EVP_chacha20_poly1305(),
+            }
+        }
+    }
+}

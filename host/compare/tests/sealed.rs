@@ -1,0 +1,129 @@
+//! Real cipher text: what either version builds and the cipher seals, both read back alike, in both modes
+//! and with both ciphers, over losses, repeats, damage, key changes with late records, and drops. Whatever
+//! is handed out was sent, under its key and number, and is handed out once.
+use cipher::{Aead, Suite};
+use compare::Husk;
+use reference::random::Rng;
+use reference::version::{Memory, ReceiverCalls, SenderCalls, Version};
+use reference::Setting;
+use std::collections::{HashMap, HashSet};
+
+/// A sealed record on its way, with what the test knows of it.
+#[derive(Clone)]
+struct Sent {
+    bytes: Vec<u8>,
+    count: u32,
+    number: u64,
+    app: Vec<u8>,
+}
+
+/// The keys of a run, by key count: each cipher key is a new one.
+struct Keys {
+    suite: Suite,
+    seed: u64,
+}
+
+impl Keys {
+    fn iv(&self, count: u32) -> [u8; 12] {
+        Rng::new(self.seed ^ (u64::from(count) << 32) ^ 0xabcd).iv()
+    }
+
+    fn cipher(&self, count: u32) -> Aead {
+        let bytes = Rng::new(self.seed ^ (u64::from(count) << 32)).bytes(32);
+        Aead::new(self.suite, &bytes.try_into().unwrap())
+    }
+}
+
+/// Builds and seals one record with a sender of either version.
+fn send<S: SenderCalls>(sender: &mut S, keys: &Keys, mode: u8, rng: &mut Rng) -> Option<Sent> {
+    let app_len = rng.below(40) as usize;
+    let app = rng.bytes(app_len);
+    let random_len = if mode == 1 { rng.below(6) as usize } else { 0 };
+    let random = rng.bytes(random_len);
+    let mut out = vec![0u8; 96];
+    let count = sender.raw().count;
+    let built = sender.build(&app, &random, &mut out);
+    if built.answer != 0 {
+        return None;
+    }
+    let (assoc, text, total) = (built.assoc as usize, built.text as usize, built.total as usize);
+    let (front, rest) = out.split_at_mut(assoc);
+    let tag = keys.cipher(count).seal(&built.nonce, front, &mut rest[..text - assoc]);
+    rest[text - assoc..total - assoc].copy_from_slice(&tag);
+    out.truncate(total);
+    Some(Sent { bytes: out, count, number: built.number, app })
+}
+
+/// Offers, runs the cipher and settles; answers the number of Settle (or of Offer) and the data.
+fn receive<V: Version>(receiver: &mut V::Receiver, keys: &Keys, rec: &[u8], slot: u8) -> (u8, u32, u64, Vec<u8>) {
+    let offered = receiver.offer(rec, slot);
+    if offered.answer != 0 {
+        return (offered.answer, 0, 0, Vec::new());
+    }
+    let mode = receiver.raw().setting.mode;
+    let (assoc, text) = (offered.assoc as usize, offered.text as usize);
+    let mut plain = rec[assoc..text].to_vec();
+    let tag = rec[text..].try_into().unwrap();
+    let yes = keys.cipher(offered.count).open(&offered.nonce, &rec[..assoc], &mut plain, &tag);
+    let settled = receiver.settle(rec, slot, offered.count, offered.number, yes, &plain);
+    let data = V::view(mode, settled.place, settled.length, rec, &plain).to_vec();
+    (settled.answer, offered.count, offered.number, data)
+}
+
+/// One run: a sender of version `S`, receivers of both versions side by side. Answers how many records
+/// were handed out.
+fn run<S: Version>(suite: Suite, mode: u8, seed: u64) -> usize {
+    let mut rng = Rng::new(seed);
+    let keys = Keys { suite, seed };
+    let setting = Setting { mode, session: rng.word() as u32, limit: 1 << 20 };
+    let mut sender = S::Sender::open(setting, keys.iv(0)).1;
+    let mut ours = <Husk as Version>::Receiver::open(setting, keys.iv(0)).1;
+    let mut theirs = <Memory as Version>::Receiver::open(setting, keys.iv(0)).1;
+    let (mut mail, mut sent, mut handed) = (Vec::<Sent>::new(), HashMap::new(), HashSet::new());
+    for _ in 0..400 {
+        match rng.below(12) {
+            0 if ours.raw().held => assert_eq!(ours.drop_old(), theirs.drop_old()),
+            1 if !ours.raw().held && rng.one_in(4) => {
+                let iv = keys.iv(sender.raw().count + 1);
+                assert_eq!((sender.change_key(iv), ours.change_key(iv), theirs.change_key(iv)), (0, 0, 0));
+            }
+            2..=6 => {
+                let record = send(&mut sender, &keys, mode, &mut rng).unwrap();
+                sent.insert((record.count, record.number), record.app.clone());
+                mail.push(record);
+            }
+            _ if mail.is_empty() => {}
+            _ => {
+                let mut record = mail[mail.len() - 1 - rng.below(mail.len().min(90) as u64) as usize].clone();
+                if rng.one_in(5) {
+                    let place = rng.below(record.bytes.len() as u64) as usize;
+                    record.bytes[place] ^= 1 << rng.below(8);
+                }
+                let slot = u8::from(record.count != ours.raw().count);
+                let answer = receive::<Husk>(&mut ours, &keys, &record.bytes, slot);
+                assert_eq!(answer, receive::<Memory>(&mut theirs, &keys, &record.bytes, slot));
+                if answer.0 == 0 {
+                    let pair = (answer.1, answer.2);
+                    assert_eq!(sent.get(&pair), Some(&answer.3), "handed out what was never sent");
+                    assert!(handed.insert(pair), "handed out twice");
+                }
+            }
+        }
+        assert_eq!(ours.raw(), theirs.raw());
+    }
+    handed.len()
+}
+
+#[test]
+fn sealed_records_are_read_back_alike_and_once() {
+    let mut handed = 0;
+    for seed in 0..6 {
+        for mode in [0, 1] {
+            for suite in [Suite::Aes256Gcm, Suite::ChaCha20Poly1305] {
+                handed += run::<Husk>(suite, mode, seed);
+                handed += run::<Memory>(suite, mode, seed);
+            }
+        }
+    }
+    assert!(handed > 2_000, "only {} records were handed out", handed);
+}

@@ -1,0 +1,156 @@
+//! The controller's end of one element's channel.
+use crate::{Reading, Secret};
+use cipher::Aead;
+use husk::wrapping::read_message;
+use husk::{Receiver, Refusal, Setting, CURRENT, OLD};
+
+/// What became of an element's deliveries.
+#[derive(Clone, Copy, Debug, Default, PartialEq, Eq)]
+pub struct Tally {
+    /// Records handed out.
+    pub handed: u64,
+    /// Repeat and Old: the record was there before, or may have been.
+    pub repeats: u64,
+    /// Every other refusal.
+    pub others: u64,
+}
+
+/// The receiving end of a channel, with the keys for the cipher. Each key stands beside the slot that the
+/// receiver has for it, and changes with it.
+pub struct Element {
+    session: u32,
+    receiver: Receiver,
+    current: Aead,
+    old: Option<Aead>,
+    tally: Tally,
+    lit: bool,
+    reading: Option<Reading>,
+}
+
+impl Element {
+    /// An element with the setting and the secret that its board has too. It is dark.
+    ///
+    /// # Errors
+    /// [`Refusal::Setting`].
+    pub fn new(setting: Setting, secret: &Secret) -> Result<Element, Refusal> {
+        Ok(Element {
+            session: setting.session,
+            receiver: Receiver::open(setting, secret.iv())?,
+            current: secret.aead(),
+            old: None,
+            tally: Tally::default(),
+            lit: false,
+            reading: None,
+        })
+    }
+
+    /// Takes a message and counts what became of it. Only a record handed out lights the element.
+    pub fn deliver(&mut self, message: &[u8]) {
+        match self.read(message) {
+            Ok(reading) => {
+                self.tally.handed += 1;
+                self.lit = true;
+                self.reading = reading;
+            }
+            Err(Refusal::Repeat | Refusal::Old) => self.tally.repeats += 1,
+            Err(_) => self.tally.others += 1,
+        }
+    }
+
+    /// Reads a message under the current key and, where that may not be the record's key, under the old
+    /// one. A record does not say its key, and number 3 of the old key is no repeat of number 3 of the new.
+    fn read(&mut self, message: &[u8]) -> Result<Option<Reading>, Refusal> {
+        let record = read_message(message)?;
+        match self.settle(record, CURRENT) {
+            Err(refusal) if self.old.is_some() && depends_on_key(refusal) => {
+                let old = self.settle(record, OLD);
+                // The cipher's no says that the record is not of the current key, so the old one's answer
+                // counts. Where the current key knew the number, its answer does.
+                old.map_err(|second| match refusal {
+                    Refusal::Mac => second,
+                    first => first,
+                })
+            }
+            answer => answer,
+        }
+    }
+
+    /// Offer, the cipher, Settle: the cipher runs on exactly what Offer answered, and Settle is given the
+    /// very same record, slot, key count and number, and the cipher's own answer and text.
+    fn settle(&mut self, record: &[u8], slot: u8) -> Result<Option<Reading>, Refusal> {
+        let offered = self.receiver.offer(record, slot)?;
+        let aead = match slot {
+            OLD => self.old.as_mut().ok_or(Refusal::Key)?,
+            _ => &mut self.current,
+        };
+        let (assoc, rest) = record.split_at(offered.assoc);
+        let (text, mac) = rest.split_at(offered.text - offered.assoc);
+        let mac = mac.try_into().expect("an offered record ends with its MAC");
+        let mut plain = text.to_vec();
+        let yes = aead.open(&offered.nonce, assoc, &mut plain, mac);
+        let (count, number) = (offered.count, offered.number);
+        let app = self
+            .receiver
+            .settle(record, slot, count, number, yes, &plain)?;
+        Reading::read(app)
+    }
+
+    /// A new key and IV. The current key becomes the old one, for records that are late.
+    ///
+    /// # Errors
+    /// [`Refusal::Held`], where the old key was not dropped; [`Refusal::Epochs`].
+    pub fn change_key(&mut self, secret: &Secret) -> Result<(), Refusal> {
+        self.receiver.change_key(secret.iv())?;
+        self.old = Some(std::mem::replace(&mut self.current, secret.aead()));
+        Ok(())
+    }
+
+    /// Forgets the old key at both places.
+    ///
+    /// # Errors
+    /// [`Refusal::Key`], where there is none.
+    pub fn drop_old(&mut self) -> Result<(), Refusal> {
+        self.receiver.drop_old()?;
+        self.old = None;
+        Ok(())
+    }
+
+    /// Whether a record was handed out since the last call. It is dark again after it.
+    pub fn poll(&mut self) -> bool {
+        std::mem::take(&mut self.lit)
+    }
+
+    /// Its Session ID.
+    pub fn session(&self) -> u32 {
+        self.session
+    }
+
+    /// The counts since the start.
+    pub fn tally(&self) -> Tally {
+        self.tally
+    }
+
+    /// Whether a record was handed out since the last poll.
+    pub fn is_lit(&self) -> bool {
+        self.lit
+    }
+
+    /// The reading that was handed out last.
+    pub fn reading(&self) -> Option<Reading> {
+        self.reading
+    }
+
+    /// The receiver.
+    pub fn receiver(&self) -> &Receiver {
+        &self.receiver
+    }
+}
+
+/// Whether another key might answer otherwise: these speak of the record's number or its MAC, all others
+/// of its form.
+fn depends_on_key(refusal: Refusal) -> bool {
+    matches!(
+        refusal,
+        Refusal::Spent | Refusal::Old | Refusal::Repeat | Refusal::Mac
+    )
+}

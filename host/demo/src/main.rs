@@ -1,0 +1,6 @@
+//! Prints the sheet of the bay after the last period.
+
+fn main() -> Result<(), husk::Refusal> {
+    print!("{}", demo::run()?);
+    Ok(())
+}

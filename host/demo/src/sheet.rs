@@ -1,0 +1,82 @@
+//! The docking sheet.
+use crate::{Controller, Element, Tally};
+use husk::{Refusal, CURRENT};
+use std::fmt;
+
+/// One element's row.
+#[derive(Clone, Copy, Debug, PartialEq, Eq)]
+pub struct Row {
+    /// Its Session ID.
+    pub session: u32,
+    /// What became of its deliveries.
+    pub tally: Tally,
+    /// The gap count of its current key.
+    pub gaps: u32,
+    /// Whether a record was handed out since the last poll.
+    pub lit: bool,
+}
+
+impl Row {
+    fn of(element: &Element) -> Result<Row, Refusal> {
+        Ok(Row {
+            session: element.session(),
+            tally: element.tally(),
+            gaps: element.receiver().gaps(CURRENT)?,
+            lit: element.is_lit(),
+        })
+    }
+}
+
+/// A row for each element.
+#[derive(Clone, Debug, PartialEq, Eq)]
+pub struct Sheet {
+    rows: Vec<Row>,
+}
+
+impl Sheet {
+    /// The sheet as the controller stands.
+    ///
+    /// # Errors
+    /// None: the current key is always there.
+    pub fn of(controller: &Controller) -> Result<Sheet, Refusal> {
+        let rows: Result<_, _> = controller.elements().iter().map(Row::of).collect();
+        Ok(Sheet { rows: rows? })
+    }
+
+    /// The rows, by element.
+    pub fn rows(&self) -> &[Row] {
+        &self.rows
+    }
+
+    /// The elements that are dark.
+    pub fn dark(&self) -> Vec<usize> {
+        (0..self.rows.len())
+            .filter(|element| !self.rows[*element].lit)
+            .collect()
+    }
+}
+
+impl fmt::Display for Sheet {
+    fn fmt(&self, f: &mut fmt::Formatter<'_>) -> fmt::Result {
+        writeln!(f, "element  session   handed  repeats  others  gaps  light")?;
+        for (element, row) in self.rows.iter().enumerate() {
+            let Tally {
+                handed,
+                repeats,
+                others,
+            } = row.tally;
+            let light = if row.lit { "lit" } else { "dark" };
+            let (session, gaps) = (row.session, row.gaps);
+            writeln!(
+                f,
+                "{element:7}  {session:08x}  {handed:6}  {repeats:7}  {others:6}  {gaps:4}  {light}"
+            )?;
+        }
+        let dark: Vec<String> = self.dark().iter().map(usize::to_string).collect();
+        if dark.is_empty() {
+            writeln!(f, "dark: none")
+        } else {
+            writeln!(f, "dark: {}", dark.join(" "))
+        }
+    }
+}

@@ -1,0 +1,45 @@
+//! SPDM secured records over MCTP: a safe, `no_std` face of the proved record layer.
+//!
+//! A [`Sender`] builds records, a [`Receiver`] reads them. The cipher is the host's: it runs between
+//! [`Receiver::offer`] and [`Receiver::settle`], and after [`Sender::build`]. Every call answers for
+//! every state value, record, length and slot; a refusal is an `Err` with page 01's number and name,
+//! changes no buffer, and keeps the state (but [`Refusal::Inner`], which marks its number).
+//!
+//! ```text
+//! let offered = receiver.offer(record, husk::CURRENT)?;
+//! let yes = cipher.open(key, &offered.nonce, &record[..offered.assoc], ..);
+//! let data = receiver.settle(record, husk::CURRENT, offered.count, offered.number, yes, plain)?;
+//! ```
+#![no_std]
+#![deny(missing_docs)]
+
+#[cfg(feature = "std")]
+extern crate std;
+
+#[allow(missing_docs)]
+mod calls;
+pub mod raw;
+mod receiver;
+mod refusal;
+mod sender;
+pub mod wrapping;
+
+pub use raw::Setting;
+pub use receiver::{Offered, Receiver};
+pub use refusal::Refusal;
+pub use sender::{Built, Sender};
+
+/// The slot of the current receive key.
+pub const CURRENT: u8 = 0;
+/// The slot of the old receive key.
+pub const OLD: u8 = 1;
+/// Mode 0: message authentication only.
+pub const AUTHENTICATED: u8 = 0;
+/// Mode 1: encryption and authentication.
+pub const ENCRYPTED: u8 = 1;
+/// The length of a record's header.
+pub const HEADER: usize = 8;
+/// The length of a record's MAC.
+pub const MAC: usize = 16;
+/// How many numbers a receive window remembers.
+pub const WIDTH: u64 = 64;

@@ -1,0 +1,33 @@
+//! The structs lie in memory as the boundary has them: sizes and offsets, from Rust's side. The same
+//! table is checked from C's side in examples/c/layout.c.
+use husk::raw::*;
+use std::mem::size_of;
+use std::ptr::addr_of;
+
+macro_rules! lies {
+    ($type:ty, $size:expr $(, $field:ident at $place:expr)*) => {{
+        assert_eq!(size_of::<$type>(), $size, stringify!($type));
+        let value = <$type>::default();
+        let _start = addr_of!(value) as usize;
+        $(assert_eq!(addr_of!(value.$field) as usize - _start, $place, concat!(stringify!($type), ".", stringify!($field)));)*
+    }};
+}
+
+#[test]
+fn each_struct_lies_as_the_header_says() {
+    lies!(Setting, 16, mode at 0, session at 4, limit at 8);
+    lies!(Iv, 12);
+    lies!(Marks, 8);
+    lies!(Window, 16, next at 0, marks at 8);
+    lies!(Key, 32, iv at 0, window at 16);
+    lies!(Sender, 48, setting at 0, count at 16, next at 24, iv at 32);
+    lies!(SenderStep, 56, answer at 0, next at 8);
+    lies!(Built, 104, answer at 0, number at 8, nonce at 16, assoc at 32, text at 40, total at 48, next at 56);
+    lies!(Receiver, 96, setting at 0, count at 16, current at 24, held at 56, old at 64);
+    lies!(ReceiverStep, 104, answer at 0, next at 8);
+    lies!(Counted, 8, answer at 0, gaps at 4);
+    lies!(Offered, 48, answer at 0, count at 4, number at 8, nonce at 16, assoc at 32, text at 40);
+    lies!(Settled, 120, answer at 0, place at 8, length at 16, next at 24);
+    lies!(Wrote, 16, answer at 0, length at 8);
+    lies!(Data, 3, answer at 0, integrity at 1, kind at 2);
+}

@@ -1,0 +1,38 @@
+//! The fixed lengths of page 01, as constants of the type they belong to.
+
+/// Lengths of a record on the wire.
+#[derive(Clone, Copy, Debug)]
+pub struct Record;
+
+impl Record {
+    /// Session ID, partial number and Length.
+    pub const HEADER: usize = 8;
+    /// The authentication code at the end.
+    pub const MAC: usize = 16;
+    /// The application data length field, mode 1 only.
+    pub const DATA_LENGTH: usize = 2;
+    /// The largest value of the Length field.
+    pub const LARGEST: usize = 65_535;
+}
+
+/// Width of the receive window.
+#[derive(Clone, Copy, Debug)]
+pub struct Window;
+
+impl Window {
+    /// How many numbers below E the window knows.
+    pub const WIDTH: u32 = 64;
+}
+
+/// Bytes of the MCTP wrapping.
+#[derive(Clone, Copy, Debug)]
+pub struct Mctp;
+
+impl Mctp {
+    /// The message type of a secured record, and the type barred inside one.
+    pub const SECURED: u8 = 6;
+    /// The top bit of the first data byte.
+    pub const INTEGRITY: u8 = 0x80;
+    /// The highest type that seven bits hold.
+    pub const HIGHEST_TYPE: u8 = 127;
+}

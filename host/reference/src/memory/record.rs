@@ -1,0 +1,92 @@
+//! The record on the wire: offsets, Length, and the ends the cipher needs.
+
+use super::digits::{digits_of, number_in};
+use crate::layout::Record;
+use crate::refusal::Refusal;
+use crate::setting::Setting;
+
+const HEADER: u64 = Record::HEADER as u64;
+const MAC: u64 = Record::MAC as u64;
+const DATA_LENGTH: u64 = Record::DATA_LENGTH as u64;
+
+/// What a record's header says, once refusals 4 to 7 are past.
+pub(super) struct Header {
+    pub(super) low: u16,
+    pub(super) length: u64,
+}
+
+/// Reads the header, or refuses with Short, Session, Length or Small.
+pub(super) fn read_header(rec: &[u8], setting: &Setting) -> Result<Header, Refusal> {
+    Refusal::Short.when((rec.len() as u64) < HEADER)?;
+    let session = number_in(&rec[0..4]);
+    let low = number_in(&rec[4..6]) as u16;
+    let length = number_in(&rec[6..8]);
+    Refusal::Session.when(session != u64::from(setting.session))?;
+    Refusal::Length.when(rec.len() as u64 != HEADER + length)?;
+    Refusal::Small.when(length < smallest_length(setting.mode))?;
+    Ok(Header { low, length })
+}
+
+/// Length of a record without data or random bytes.
+fn smallest_length(mode: u8) -> u64 {
+    if mode == 0 {
+        MAC
+    } else {
+        DATA_LENGTH + MAC
+    }
+}
+
+/// Length for P bytes of data and R random ones. Wide, so that no pair of
+/// slice lengths can wrap it.
+pub(super) fn length_for(mode: u8, data: usize, random: usize) -> u128 {
+    u128::from(smallest_length(mode)) + data as u128 + random as u128
+}
+
+/// The associated-data end and the text end. In mode 0 all before the MAC is
+/// associated data and the text is empty; in mode 1 the header alone is.
+pub(super) fn ends(mode: u8, length: u64) -> (u64, u64) {
+    let before_mac = HEADER + length - MAC;
+    if mode == 0 {
+        (before_mac, before_mac)
+    } else {
+        (HEADER, before_mac)
+    }
+}
+
+/// How many bytes of plaintext the cipher gives back for this Length.
+pub(super) fn plain_length(mode: u8, length: u64) -> u64 {
+    if mode == 0 {
+        0
+    } else {
+        length - MAC
+    }
+}
+
+/// Place and length of the application data, or Inner.
+pub(super) fn data_part(mode: u8, length: u64, plain: &[u8]) -> Result<(u64, u64), Refusal> {
+    if mode == 0 {
+        return Ok((HEADER, length - MAC));
+    }
+    let data = number_in(&plain[0..2]);
+    Refusal::Inner.when(data > length - DATA_LENGTH - MAC)?;
+    Ok((DATA_LENGTH, data))
+}
+
+/// All of a record but its MAC.
+pub(super) fn unsealed(
+    setting: &Setting,
+    number: u64,
+    length: u64,
+    data: &[u8],
+    random: &[u8],
+) -> Vec<u8> {
+    let mut bytes = digits_of(u64::from(setting.session), 4);
+    bytes.extend(digits_of(number, 2));
+    bytes.extend(digits_of(length, 2));
+    if setting.mode == 1 {
+        bytes.extend(digits_of(data.len() as u64, 2));
+    }
+    bytes.extend(data);
+    bytes.extend(random);
+    bytes
+}

@@ -1,0 +1,113 @@
+//! Any states, most of the bad ones just over one line of the State rule.
+
+use super::rng::Rng;
+use super::states::{good_receiver, good_sender, good_setting};
+use crate::raw::{RawKey, RawReceiver, RawSender};
+use crate::setting::Setting;
+
+/// A setting, bad about once in four times.
+pub fn any_setting(rng: &mut Rng) -> Setting {
+    let mut setting = good_setting(rng);
+    if rng.one_in(4) {
+        break_setting(rng, &mut setting);
+    }
+    setting
+}
+
+/// A sender's state, bad about once in four times.
+pub fn any_sender(rng: &mut Rng) -> RawSender {
+    let mut state = good_sender(rng);
+    match rng.below(12) {
+        0 => break_setting(rng, &mut state.setting),
+        1 => state.next = above(rng, state.setting.limit),
+        2 => state.next = rng.word(),
+        _ => {}
+    }
+    state
+}
+
+/// A receiver's state, bad about once in four times.
+pub fn any_receiver(rng: &mut Rng) -> RawReceiver {
+    let mut state = good_receiver(rng);
+    if rng.one_in(4) {
+        break_receiver(rng, &mut state);
+    }
+    state
+}
+
+fn break_setting(rng: &mut Rng, setting: &mut Setting) {
+    match rng.below(3) {
+        0 => setting.mode = rng.pick(&[2, 3, 128, 255]),
+        1 => setting.mode = rng.word() as u8,
+        _ => setting.limit = 0,
+    }
+}
+
+fn break_receiver(rng: &mut Rng, state: &mut RawReceiver) {
+    let limit = state.setting.limit;
+    match rng.below(8) {
+        0 => break_setting(rng, &mut state.setting),
+        1 | 2 => break_key(rng, &mut state.current, limit),
+        3 | 4 => break_key(rng, &mut state.old, limit),
+        5 => leave_stray_old(rng, state),
+        6 => (state.held, state.count) = (true, 0),
+        _ => *state = scramble(rng),
+    }
+}
+
+/// One clause of the State rule for a key, or any fields at all.
+fn break_key(rng: &mut Rng, key: &mut RawKey, limit: u64) {
+    match rng.below(4) {
+        0 => key.next = above(rng, limit),
+        1 => {
+            key.next = rng.below(64);
+            let bit = key.next + rng.below(64 - key.next);
+            key.marks = 1 | 1 << bit;
+        }
+        2 => key.marks &= !1,
+        _ => {
+            key.next = rng.word();
+            key.marks = rng.word();
+        }
+    }
+}
+
+/// No old key held, but one of its fields not zero.
+fn leave_stray_old(rng: &mut Rng, state: &mut RawReceiver) {
+    state.held = false;
+    let stray = rng.below(4);
+    if stray == 3 {
+        return; // whatever a held key left behind
+    }
+    state.old = RawKey::default();
+    match stray {
+        0 => state.old.iv[rng.below(12) as usize] = 1 + rng.below(255) as u8,
+        1 => state.old.next = 1,
+        _ => state.old.marks = 1,
+    }
+}
+
+fn scramble(rng: &mut Rng) -> RawReceiver {
+    let mut key = || RawKey {
+        iv: rng.iv(),
+        next: rng.word(),
+        marks: rng.word(),
+    };
+    let (current, old) = (key(), key());
+    RawReceiver {
+        setting: Setting {
+            mode: rng.word() as u8,
+            session: rng.word() as u32,
+            limit: rng.word(),
+        },
+        count: rng.word() as u32,
+        current,
+        held: rng.one_in(2),
+        old,
+    }
+}
+
+/// A little above the limit, or the limit itself where nothing is above it.
+fn above(rng: &mut Rng, limit: u64) -> u64 {
+    limit.saturating_add(1 + rng.below(3))
+}

@@ -1,0 +1,42 @@
+//! The states as plain fields, good or bad, in the form they are compared in.
+
+use crate::setting::{Iv, Setting};
+
+/// A sender's state.
+#[derive(Clone, Copy, Debug, Default, PartialEq, Eq, Hash)]
+pub struct RawSender {
+    /// The channel's setting.
+    pub setting: Setting,
+    /// Key count.
+    pub count: u32,
+    /// The next number to send.
+    pub next: u64,
+    /// IV of the key in use.
+    pub iv: Iv,
+}
+
+/// One receive key.
+#[derive(Clone, Copy, Debug, Default, PartialEq, Eq, Hash)]
+pub struct RawKey {
+    /// IV of the key.
+    pub iv: Iv,
+    /// E: 0 when nothing is marked, else the highest marked number plus 1.
+    pub next: u64,
+    /// The window word: bit i set means that E - 1 - i is marked.
+    pub marks: u64,
+}
+
+/// A receiver's state.
+#[derive(Clone, Copy, Debug, Default, PartialEq, Eq, Hash)]
+pub struct RawReceiver {
+    /// The channel's setting.
+    pub setting: Setting,
+    /// Key count of the current key.
+    pub count: u32,
+    /// The current key, slot 0.
+    pub current: RawKey,
+    /// Whether an old key is held.
+    pub held: bool,
+    /// The old key, slot 1; all zero when none is held.
+    pub old: RawKey,
+}

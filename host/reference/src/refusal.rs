@@ -1,0 +1,102 @@
+//! The numbers of refusal.
+
+/// Why a call was refused, with page 01's number for it.
+#[derive(Clone, Copy, Debug, PartialEq, Eq, Hash, PartialOrd, Ord)]
+#[repr(u8)]
+pub enum Refusal {
+    /// The state given is one that no call returns.
+    State = 1,
+    /// Mode above 1, or L = 0.
+    Setting = 2,
+    /// Slot above 1, or the old key wanted with none held.
+    Key = 3,
+    /// Record under 8 bytes.
+    Short = 4,
+    /// Session ID differs.
+    Session = 5,
+    /// Record is not 8 + Length bytes.
+    Length = 6,
+    /// Length too small for the mode.
+    Small = 7,
+    /// The number is not below L.
+    Spent = 8,
+    /// More than 64 below E.
+    Old = 9,
+    /// Marked already.
+    Repeat = 10,
+    /// Key count or number differs from the one worked out now.
+    Stale = 11,
+    /// The plaintext buffer has the wrong length.
+    Plain = 12,
+    /// The cipher said no.
+    Mac = 13,
+    /// The data length inside does not fit; the number is marked.
+    Inner = 14,
+    /// Random bytes in mode 0.
+    Padding = 15,
+    /// Length would pass 65,535.
+    Size = 16,
+    /// The output buffer is too short.
+    Room = 17,
+    /// An old key is still held.
+    Held = 18,
+    /// The key count is at its end.
+    Epochs = 19,
+    /// The inner type is barred or missing.
+    Wrapped = 20,
+    /// Not a secured MCTP message.
+    Frame = 21,
+}
+
+impl Refusal {
+    /// Every refusal, in the order of the numbers.
+    pub const ALL: [Refusal; 21] = [
+        Refusal::State,
+        Refusal::Setting,
+        Refusal::Key,
+        Refusal::Short,
+        Refusal::Session,
+        Refusal::Length,
+        Refusal::Small,
+        Refusal::Spent,
+        Refusal::Old,
+        Refusal::Repeat,
+        Refusal::Stale,
+        Refusal::Plain,
+        Refusal::Mac,
+        Refusal::Inner,
+        Refusal::Padding,
+        Refusal::Size,
+        Refusal::Room,
+        Refusal::Held,
+        Refusal::Epochs,
+        Refusal::Wrapped,
+        Refusal::Frame,
+    ];
+
+    /// The number that a call answers.
+    #[must_use]
+    pub const fn number(self) -> u8 {
+        self as u8
+    }
+
+    /// The refusal with this number, if there is one.
+    #[must_use]
+    pub fn from_number(number: u8) -> Option<Refusal> {
+        Refusal::ALL.into_iter().find(|r| r.number() == number)
+    }
+
+    /// Refuses for this reason when `wrong` holds, so that checks read as a list.
+    pub(crate) fn when(self, wrong: bool) -> Result<(), Refusal> {
+        if wrong {
+            Err(self)
+        } else {
+            Ok(())
+        }
+    }
+}
+
+/// The answer number of a call that has nothing else to say.
+pub(crate) fn answer_of(result: Result<(), Refusal>) -> u8 {
+    result.map_or_else(Refusal::number, |()| 0)
+}

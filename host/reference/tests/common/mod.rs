@@ -1,0 +1,79 @@
+//! What several tests need: simple states and records, and a test per version.
+#![allow(dead_code)] // no test file uses all of it
+
+pub mod toy;
+
+use reference::{Iv, RawKey, RawReceiver, RawSender, Setting};
+
+pub const SESSION: u32 = 0x1122_3344;
+pub const IV: Iv = [0, 1, 2, 3, 4, 5, 6, 7, 8, 9, 10, 11];
+
+/// Makes a test of each function for both versions.
+#[macro_export]
+macro_rules! for_both {
+    ($($test:ident),* $(,)?) => {
+        mod memory_version {
+            $(#[test] fn $test() { super::$test::<reference::version::Memory>(); })*
+        }
+        mod fast_version {
+            $(#[test] fn $test() { super::$test::<reference::version::Fast>(); })*
+        }
+    };
+}
+
+/// The setting of the worked cases, with the highest limit.
+pub fn setting(mode: u8) -> Setting {
+    Setting {
+        mode,
+        session: SESSION,
+        limit: u64::MAX,
+    }
+}
+
+/// A key with E and a window word.
+pub fn key(next: u64, marks: u64) -> RawKey {
+    RawKey {
+        iv: IV,
+        next,
+        marks,
+    }
+}
+
+/// A sender about to use this number.
+pub fn sender(mode: u8, next: u64) -> RawSender {
+    RawSender {
+        setting: setting(mode),
+        count: 0,
+        next,
+        iv: IV,
+    }
+}
+
+/// A receiver without an old key.
+pub fn receiver(mode: u8, next: u64, marks: u64) -> RawReceiver {
+    RawReceiver {
+        setting: setting(mode),
+        current: key(next, marks),
+        ..RawReceiver::default()
+    }
+}
+
+/// A receiver that holds an old key.
+pub fn receiver_with_old(mode: u8, current: RawKey, old: RawKey) -> RawReceiver {
+    RawReceiver {
+        setting: setting(mode),
+        count: 1,
+        current,
+        held: true,
+        old,
+    }
+}
+
+/// A record with zeros behind its header.
+pub fn record(low: u16, length: u16) -> Vec<u8> {
+    let mut rec = SESSION.to_le_bytes().to_vec();
+    rec.extend(low.to_le_bytes());
+    rec.extend(length.to_le_bytes());
+    rec.resize(8 + usize::from(length), 0);
+    rec
+}

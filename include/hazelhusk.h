@@ -1,0 +1,284 @@
+/* Hazelhusk 1.0: SPDM secured records over MCTP, for C.
+ *
+ * Link target/staticlib/libhusk.a. It needs nothing else: no heap, no C library, no global state.
+ *
+ * A sender builds records and a receiver reads them; the cipher is yours. Each function below takes a
+ * pointer to the state and updates it in place on every return, so the state can't be lost. Each
+ * answers 0, or the number of a refusal (HAZELHUSK_STATE, ..). A refusal answers zeros in all other
+ * fields, writes to no buffer and keeps the state; HAZELHUSK_INNER alone marks the record's number.
+ * Every call answers for every value of the state, every record, length, mode and slot. A pointer with
+ * length 0 may be NULL.
+ *
+ * What you must do:
+ *   - Keep the state that the last call left, and call with no other. A copy that is older repeats
+ *     numbers. Give one state to one thread at a time.
+ *   - Let no pointer of a call alias another: not the state, not the output buffer.
+ *   - Between offer and settle run the cipher with exactly what offer answered: the key of `count`, the
+ *     nonce, record[0 .. assoc) as associated data, record[assoc .. text) as text, and the 16 bytes
+ *     from text on as MAC.
+ *   - Give settle the very record, slot, count and number of that offer, the cipher's own answer (1 is
+ *     yes; any other byte is no), and its text (mode 1: assoc .. text, decrypted; mode 0: length 0).
+ *   - Seal what build wrote with the nonce and ends that it answered, and put the 16 MAC bytes at text.
+ *     A built number is spent, whatever the cipher did.
+ *   - Use a new key and IV for every change of key, at both ends, and drop the old one after KT1.
+ */
+#ifndef HAZELHUSK_H
+#define HAZELHUSK_H
+
+#include <stdbool.h>
+#include <stddef.h>
+#include <stdint.h>
+#include <string.h>
+
+#ifdef __cplusplus
+extern "C" {
+#endif
+
+/* It changes whenever a struct below does. */
+#define HAZELHUSK_VERSION 1
+
+#define HAZELHUSK_HEADER_BYTES 8u  /* bytes of a record's header */
+#define HAZELHUSK_MAC_BYTES 16u   /* bytes of a record's MAC */
+#define HAZELHUSK_WINDOW_WIDTH 64u  /* numbers that a receive window remembers */
+#define HAZELHUSK_SLOT_CURRENT 0u  /* the slot of the current receive key */
+#define HAZELHUSK_SLOT_OLD 1u     /* the slot of the old one */
+
+/* The refusals. */
+enum {
+    HAZELHUSK_OK = 0,
+    HAZELHUSK_STATE = 1,    /* the state is none that the calls return */
+    HAZELHUSK_SETTING = 2,  /* mode above 1, or a limit of 0 */
+    HAZELHUSK_KEY = 3,      /* no such slot, or no old key */
+    HAZELHUSK_SHORT = 4,    /* the record is shorter than a header */
+    HAZELHUSK_SESSION = 5,  /* another Session ID */
+    HAZELHUSK_LENGTH = 6,   /* the record is not its header and Length bytes */
+    HAZELHUSK_SMALL = 7,    /* Length is too small for the MAC */
+    HAZELHUSK_SPENT = 8,    /* the number is not below the limit */
+    HAZELHUSK_OLD = 9,      /* the number lies behind the window */
+    HAZELHUSK_REPEAT = 10,  /* the number was marked before */
+    HAZELHUSK_STALE = 11,   /* key count or number is not the one worked out now */
+    HAZELHUSK_PLAIN = 12,   /* the plaintext buffer has another length than the text */
+    HAZELHUSK_MAC = 13,     /* the cipher said no */
+    HAZELHUSK_INNER = 14,   /* the data length inside passes the text; the number is marked */
+    HAZELHUSK_PADDING = 15, /* random bytes in mode 0 */
+    HAZELHUSK_SIZE = 16,    /* Length would pass 65,535 */
+    HAZELHUSK_ROOM = 17,    /* the output buffer is too short */
+    HAZELHUSK_HELD = 18,    /* an old key is still held */
+    HAZELHUSK_EPOCHS = 19,  /* the key count is at its maximum */
+    HAZELHUSK_WRAPPED = 20, /* type 6 inside; empty data; a type above 127 */
+    HAZELHUSK_FRAME = 21    /* not a message with a record */
+};
+
+/* ---- states and answers, as they lie in memory */
+
+typedef struct { uint8_t mode; uint32_t session; uint64_t limit; } hazelhusk_setting;
+typedef struct { uint8_t bytes[12]; } hazelhusk_iv;
+typedef struct { uint64_t word; } hazelhusk_marks;
+typedef struct { uint64_t next; hazelhusk_marks marks; } hazelhusk_window;
+typedef struct { uint8_t iv[12]; hazelhusk_window window; } hazelhusk_key;
+
+/* The sending end: `count` is the key count, `next` the number of the next record. */
+typedef struct {
+    hazelhusk_setting setting;
+    uint32_t count;
+    uint64_t next;
+    uint8_t iv[12];
+} hazelhusk_sender;
+
+/* The receiving end. The old key is there where `held` is true. */
+typedef struct {
+    hazelhusk_setting setting;
+    uint32_t count;
+    hazelhusk_key current;
+    bool held;
+    hazelhusk_key old;
+} hazelhusk_receiver;
+
+typedef struct { uint8_t answer; hazelhusk_sender next; } hazelhusk_sender_step;
+typedef struct { uint8_t answer; hazelhusk_receiver next; } hazelhusk_receiver_step;
+
+/* `assoc` and `text` are the ends of the associated data and of the text, `total` the record's length. */
+typedef struct {
+    uint8_t answer;
+    uint64_t number;
+    uint8_t nonce[12];
+    uint64_t assoc, text, total;
+    hazelhusk_sender next;
+} hazelhusk_built;
+
+typedef struct { uint8_t answer; uint32_t gaps; } hazelhusk_counted;
+
+typedef struct {
+    uint8_t answer;
+    uint32_t count;
+    uint64_t number;
+    uint8_t nonce[12];
+    uint64_t assoc, text;
+} hazelhusk_offered;
+
+/* `place` and `length` are those of the application data; see hazelhusk_view. */
+typedef struct {
+    uint8_t answer;
+    uint64_t place, length;
+    hazelhusk_receiver next;
+} hazelhusk_settled;
+
+typedef struct { uint8_t answer; uint64_t length; } hazelhusk_wrote;
+typedef struct { uint8_t answer; bool integrity; uint8_t kind; } hazelhusk_data;
+
+/* A part of a buffer that you lent. */
+typedef struct { const uint8_t *bytes; size_t length; } hazelhusk_part;
+
+/* ---- the exported functions, by value. Use those further down, which keep the state for you. */
+
+hazelhusk_sender_step husk_open_sender(hazelhusk_setting setting, hazelhusk_iv iv);
+hazelhusk_built husk_build(hazelhusk_sender sender, const uint8_t *app, size_t app_len, const uint8_t *random, size_t random_len, uint8_t *out, size_t out_len);
+hazelhusk_sender_step husk_change_sender(hazelhusk_sender sender, hazelhusk_iv iv);
+hazelhusk_receiver_step husk_open_receiver(hazelhusk_setting setting, hazelhusk_iv iv);
+hazelhusk_counted husk_gaps(hazelhusk_receiver receiver, uint8_t slot);
+hazelhusk_offered husk_offer(hazelhusk_receiver receiver, const uint8_t *rec, size_t rec_len, uint8_t slot);
+hazelhusk_settled husk_settle(hazelhusk_receiver receiver, const uint8_t *rec, size_t rec_len, uint8_t slot, uint32_t count, uint64_t number, uint8_t yes, const uint8_t *plain, size_t plain_len);
+hazelhusk_receiver_step husk_change_receiver(hazelhusk_receiver receiver, hazelhusk_iv iv);
+hazelhusk_receiver_step husk_drop(hazelhusk_receiver receiver);
+void husk_view(uint8_t mode, uint64_t place, uint64_t length, const uint8_t *rec, size_t rec_len, const uint8_t *plain, size_t plain_len, hazelhusk_part *out);
+hazelhusk_wrote husk_wrap_data(uint8_t integrity, uint8_t kind, const uint8_t *body, size_t body_len, uint8_t *out, size_t out_len);
+hazelhusk_data husk_read_data(const uint8_t *app, size_t app_len);
+void husk_body_of(const uint8_t *app, size_t app_len, hazelhusk_part *out);
+hazelhusk_wrote husk_wrap_record(const uint8_t *rec, size_t rec_len, uint8_t *out, size_t out_len);
+uint8_t husk_read_message(const uint8_t *message, size_t message_len);
+void husk_record_of(const uint8_t *message, size_t message_len, hazelhusk_part *out);
+
+static inline hazelhusk_iv hazelhusk_iv_of(const uint8_t bytes[12])
+{
+    hazelhusk_iv iv;
+    memcpy(iv.bytes, bytes, sizeof iv.bytes);
+    return iv;
+}
+
+/* ---- the sender */
+
+/* A new channel. On HAZELHUSK_SETTING the state is zeros, which every later call refuses. */
+static inline uint8_t hazelhusk_sender_open(hazelhusk_sender *sender, hazelhusk_setting setting, const uint8_t iv[12])
+{
+    hazelhusk_sender_step step = husk_open_sender(setting, hazelhusk_iv_of(iv));
+    *sender = step.next;
+    return step.answer;
+}
+
+/* Writes all of a record but its MAC at the start of `out`, and answers in `built` what the cipher
+ * needs. HAZELHUSK_STATE, _SPENT, _PADDING, _SIZE, _ROOM. */
+static inline uint8_t hazelhusk_build(hazelhusk_sender *sender, const uint8_t *app, size_t app_len, const uint8_t *random, size_t random_len, uint8_t *out, size_t out_len, hazelhusk_built *built)
+{
+    *built = husk_build(*sender, app, app_len, random, random_len, out, out_len);
+    *sender = built->next;
+    return built->answer;
+}
+
+/* A new key: its IV, and the numbers from 0 again. HAZELHUSK_STATE, _EPOCHS. */
+static inline uint8_t hazelhusk_sender_change_key(hazelhusk_sender *sender, const uint8_t iv[12])
+{
+    hazelhusk_sender_step step = husk_change_sender(*sender, hazelhusk_iv_of(iv));
+    *sender = step.next;
+    return step.answer;
+}
+
+/* ---- the receiver */
+
+/* A new channel. On HAZELHUSK_SETTING the state is zeros, which every later call refuses. */
+static inline uint8_t hazelhusk_receiver_open(hazelhusk_receiver *receiver, hazelhusk_setting setting, const uint8_t iv[12])
+{
+    hazelhusk_receiver_step step = husk_open_receiver(setting, hazelhusk_iv_of(iv));
+    *receiver = step.next;
+    return step.answer;
+}
+
+/* How many of the last numbers are missing under the slot's key. HAZELHUSK_STATE, _KEY. */
+static inline uint8_t hazelhusk_gaps(const hazelhusk_receiver *receiver, uint8_t slot, uint32_t *gaps)
+{
+    hazelhusk_counted counted = husk_gaps(*receiver, slot);
+    *gaps = counted.gaps;
+    return counted.answer;
+}
+
+/* What the cipher is to check. It changes nothing. HAZELHUSK_STATE, _KEY to _REPEAT. */
+static inline uint8_t hazelhusk_offer(const hazelhusk_receiver *receiver, const uint8_t *rec, size_t rec_len, uint8_t slot, hazelhusk_offered *offered)
+{
+    *offered = husk_offer(*receiver, rec, rec_len, slot);
+    return offered->answer;
+}
+
+/* The application data of a settled record: a part of `rec` in mode 0, of `plain` in mode 1. */
+static inline hazelhusk_part hazelhusk_view(uint8_t mode, uint64_t place, uint64_t length, const uint8_t *rec, size_t rec_len, const uint8_t *plain, size_t plain_len)
+{
+    hazelhusk_part part = { NULL, 0 };
+    husk_view(mode, place, length, rec, rec_len, plain, plain_len, &part);
+    return part;
+}
+
+/* What the cipher said. On 0 the number is marked and `app` is the application data; else `app` is
+ * empty. HAZELHUSK_STATE, _KEY to _INNER. */
+static inline uint8_t hazelhusk_settle(hazelhusk_receiver *receiver, const uint8_t *rec, size_t rec_len, uint8_t slot, uint32_t count, uint64_t number, uint8_t yes, const uint8_t *plain, size_t plain_len, hazelhusk_part *app)
+{
+    uint8_t mode = receiver->setting.mode;
+    hazelhusk_settled settled = husk_settle(*receiver, rec, rec_len, slot, count, number, yes, plain, plain_len);
+    *receiver = settled.next;
+    *app = hazelhusk_view(mode, settled.place, settled.length, rec, rec_len, plain, plain_len);
+    return settled.answer;
+}
+
+/* A new key: the current one becomes the old one, with its window. HAZELHUSK_STATE, _HELD, _EPOCHS. */
+static inline uint8_t hazelhusk_receiver_change_key(hazelhusk_receiver *receiver, const uint8_t iv[12])
+{
+    hazelhusk_receiver_step step = husk_change_receiver(*receiver, hazelhusk_iv_of(iv));
+    *receiver = step.next;
+    return step.answer;
+}
+
+/* Forgets the old key. HAZELHUSK_STATE, _KEY. */
+static inline uint8_t hazelhusk_drop(hazelhusk_receiver *receiver)
+{
+    hazelhusk_receiver_step step = husk_drop(*receiver);
+    *receiver = step.next;
+    return step.answer;
+}
+
+/* ---- the wrapping */
+
+/* Application data: the byte of E-IC (1 is set) and type, then the body. HAZELHUSK_WRAPPED, _ROOM. */
+static inline uint8_t hazelhusk_wrap_data(uint8_t integrity, uint8_t kind, const uint8_t *body, size_t body_len, uint8_t *out, size_t out_len, uint64_t *length)
+{
+    hazelhusk_wrote wrote = husk_wrap_data(integrity, kind, body, body_len, out, out_len);
+    *length = wrote.length;
+    return wrote.answer;
+}
+
+/* The bit and the type of application data, and its body. HAZELHUSK_WRAPPED. */
+static inline uint8_t hazelhusk_read_data(const uint8_t *app, size_t app_len, bool *integrity, uint8_t *kind, hazelhusk_part *body)
+{
+    hazelhusk_data data = husk_read_data(app, app_len);
+    *integrity = data.integrity;
+    *kind = data.kind;
+    husk_body_of(app, app_len, body);
+    return data.answer;
+}
+
+/* An MCTP message: the byte 0x06, then the record. HAZELHUSK_ROOM. */
+static inline uint8_t hazelhusk_wrap_record(const uint8_t *rec, size_t rec_len, uint8_t *out, size_t out_len, uint64_t *length)
+{
+    hazelhusk_wrote wrote = husk_wrap_record(rec, rec_len, out, out_len);
+    *length = wrote.length;
+    return wrote.answer;
+}
+
+/* The record of a message. HAZELHUSK_FRAME. */
+static inline uint8_t hazelhusk_read_message(const uint8_t *message, size_t message_len, hazelhusk_part *rec)
+{
+    husk_record_of(message, message_len, rec);
+    return husk_read_message(message, message_len);
+}
+
+#ifdef __cplusplus
+}
+#endif
+
+#endif
