@@ -1,6 +1,6 @@
 # `make test` is the gate: .ci/run runs nothing else, and its last line is rt's own 'N passed, 0 failed'.
 .DEFAULT_GOAL := help
-.PHONY: help test host setup archive clean
+.PHONY: help test host bench setup archive clean
 
 # The archive is for x86-64. On another processor the host's programs are cross-built and emulated.
 X86 := x86_64-unknown-linux-gnu
@@ -22,6 +22,7 @@ ARCHIVE := target/staticlib/libhusk.a
 
 help:
 	@echo 'make test   prove everything, run the host tests; the gate'
+	@echo 'make bench  time the calls beside their peers; see docs/PERFORMANCE.md'
 	@echo 'make clean  forget what was built'
 
 test:
@@ -35,6 +36,10 @@ host: archive
 	mkdir -p $(BUILD)
 	$(CC) $(CFLAGS) examples/c/layout.c $(ARCHIVE) -o $(BUILD)/layout && $(RUN) $(BUILD)/layout
 	$(CC) $(CFLAGS) examples/c/bay.c $(ARCHIVE) -o $(BUILD)/bay && $(RUN) $(BUILD)/bay
+
+# Not a test: it prints times, and only a look at them says whether they are good.
+bench: archive
+	$(CARGO) run -q --release $(CARGO_FLAGS) -p bench
 
 setup:
 	tools/setup.sh
