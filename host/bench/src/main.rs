@@ -58,7 +58,7 @@ const REPLAY: &str = "replay: offer+settle 24B empty mode 0 / mbedTLS";
 fn replay() {
     let set = Set::new(0, 24, &in_order(RECORDS));
     let mut peer = replay::Replay::new();
-    race(REPLAY, set.count(), || receive::ours(&set), || peer.run(RECORDS));
+    race(REPLAY, RECORDS, || receive::ours(&set), || peer.run(RECORDS));
 }
 
 #[cfg(not(mbedtls))]

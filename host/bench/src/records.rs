@@ -41,10 +41,6 @@ impl Set {
     pub fn records(&self) -> impl Iterator<Item = &[u8]> {
         self.bytes.chunks_exact(self.len)
     }
-
-    pub fn count(&self) -> usize {
-        self.bytes.len() / self.len
-    }
 }
 
 /// The numbers from 0 on.
