@@ -1,6 +1,6 @@
 # `make test` is the gate: .ci/run runs nothing else, and its last line is rt's own 'N passed, 0 failed'.
 .DEFAULT_GOAL := help
-.PHONY: help test demo host examples soak memcheck setup archive clean
+.PHONY: help test demo host examples soak memcheck bench setup archive clean
 
 # The archive is for x86-64. On another processor the host's programs are cross-built and emulated.
 X86 := x86_64-unknown-linux-gnu
@@ -28,6 +28,7 @@ help:
 	@echo 'make test      prove everything, run the host tests: the gate'
 	@echo 'make soak      compare with the reference: CALLS=100000000, or as many as SECONDS=.. allow'
 	@echo 'make memcheck  the C example and a short comparison, each access checked'
+	@echo 'make bench     time the calls beside their peers; see docs/PERFORMANCE.md'
 	@echo 'make clean     forget what was built'
 
 test:
@@ -64,6 +65,10 @@ memcheck: archive examples
 	$(CARGO) test -q $(CARGO_FLAGS) -p compare --test guarded
 	$(CARGO) build -q --release $(CARGO_FLAGS) -p compare --bin soak
 	$(CHECKED) host/target/$(X86)/release/soak 20000
+
+# Not a test: it prints times, and only a look at them says whether they are good.
+bench: archive
+	$(CARGO) run -q --release $(CARGO_FLAGS) -p bench
 
 setup:
 	tools/setup.sh
