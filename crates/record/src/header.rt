@@ -13,28 +13,28 @@ const PARTIAL_AT: usize = 4;
 
 const LENGTH_AT: usize = 6;
 
-pub fn session_of(setting: Setting, rec: &[u8]) -> u32
+pub(crate) fn session_of(setting: Setting, rec: &[u8]) -> u32
     ensures { λ r. ⌜ r ≡ sessionOf setting (now (rec .entry)) ⌝ }
 {
     octets::little32(rec, SESSION_AT)
 }
 
 // The low 16 bits of the number.
-pub fn partial_of(setting: Setting, rec: &[u8]) -> u16
+pub(crate) fn partial_of(setting: Setting, rec: &[u8]) -> u16
     ensures { λ r. ⌜ r ≡ partialOf setting (now (rec .entry)) ⌝ }
 {
     octets::little16(rec, PARTIAL_AT)
 }
 
 // The field Length.
-pub fn length_of(setting: Setting, rec: &[u8]) -> u32
+pub(crate) fn length_of(setting: Setting, rec: &[u8]) -> u32
     ensures { λ r. ⌜ r ≡ lengthOf setting (now (rec .entry)) ⌝ }
 {
     octets::little16(rec, LENGTH_AT) as u32
 }
 
 // A header at the start of `out`.
-pub fn put_head(setting: Setting, number: u64, len: u64, out: &mut [u8])
+pub(crate) fn put_head(setting: Setting, number: u64, len: u64, out: &mut [u8])
     requires { ⌜ headLen setting ≤ length (now out) ⌝ }
     ensures { λ r. ⌜ now (out .exit) ≡ over (now (out .entry)) 0 (headOf setting number len) ⌝ }
 {

@@ -13,33 +13,33 @@ fn less(a: u64, b: u64) -> u64
     if a < b { 0 } else { a - b }
 }
 
-pub fn head_len(setting: Setting) -> u64
+pub(crate) fn head_len(setting: Setting) -> u64
     ensures { λ r. ⌜ r ≡ headLen setting ⌝ }
 {
     Record::HEADER
 }
 
-pub fn mac_len(setting: Setting) -> u64
+pub(crate) fn mac_len(setting: Setting) -> u64
     ensures { λ r. ⌜ r ≡ macLen setting ⌝ }
 {
     Record::MAC
 }
 
-pub fn inner_len(setting: Setting) -> u64
+pub(crate) fn inner_len(setting: Setting) -> u64
     ensures { λ r. ⌜ r ≡ innerLen setting ⌝ }
 {
     Record::INNER
 }
 
 // The largest Length.
-pub fn most_length(setting: Setting) -> u64
+pub(crate) fn most_length(setting: Setting) -> u64
     ensures { λ r. ⌜ r ≡ mostLength setting ⌝ }
 {
     Record::MOST
 }
 
 // The least Length.
-pub fn least(setting: Setting) -> u64
+pub(crate) fn least(setting: Setting) -> u64
     ensures { λ r. ⌜ r ≡ least setting ⌝ }
 {
     let clear = setting.auth_only();
@@ -50,20 +50,20 @@ pub fn least(setting: Setting) -> u64
 }
 
 // How long the record says that it is.
-pub fn total_of(setting: Setting, rec: &[u8]) -> u64
+pub(crate) fn total_of(setting: Setting, rec: &[u8]) -> u64
     ensures { λ r. ⌜ r ≡ totalOf setting (now (rec .entry)) ⌝ }
 {
     head_len(setting) + header::length_of(setting, rec) as u64
 }
 
 // Where the payload starts.
-pub fn start_of(setting: Setting, rec: &[u8]) -> u64
+pub(crate) fn start_of(setting: Setting, rec: &[u8]) -> u64
     ensures { λ r. ⌜ r ≡ startOf setting (now (rec .entry)) ⌝ }
 {
     head_len(setting)
 }
 
-pub fn text_end(setting: Setting, rec: &[u8]) -> u64
+pub(crate) fn text_end(setting: Setting, rec: &[u8]) -> u64
     ensures { λ r. ⌜ r ≡ textEnd setting (now (rec .entry)) ⌝ }
 {
     less(rec.len() as u64, mac_len(setting))
@@ -76,7 +76,7 @@ fn inside(setting: Setting, rec: &[u8]) -> u64
     less(text_end(setting, rec), start_of(setting, rec))
 }
 
-pub fn assoc_end(setting: Setting, rec: &[u8]) -> u64
+pub(crate) fn assoc_end(setting: Setting, rec: &[u8]) -> u64
     ensures { λ r. ⌜ r ≡ assocEnd setting (now (rec .entry)) ⌝ }
 {
     let clear = setting.auth_only();
@@ -86,7 +86,7 @@ pub fn assoc_end(setting: Setting, rec: &[u8]) -> u64
     start_of(setting, rec)
 }
 
-pub fn plain_len(setting: Setting, rec: &[u8]) -> u64
+pub(crate) fn plain_len(setting: Setting, rec: &[u8]) -> u64
     ensures { λ r. ⌜ r ≡ plainLen setting (now (rec .entry)) ⌝ }
 {
     let clear = setting.auth_only();
@@ -96,7 +96,7 @@ pub fn plain_len(setting: Setting, rec: &[u8]) -> u64
     inside(setting, rec)
 }
 
-pub fn data_place(setting: Setting, rec: &[u8]) -> u64
+pub(crate) fn data_place(setting: Setting, rec: &[u8]) -> u64
     ensures { λ r. ⌜ r ≡ dataPlace setting (now (rec .entry)) ⌝ }
 {
     let clear = setting.auth_only();

@@ -7,7 +7,7 @@ use record::Setting;
 const SESSION: u32 = 0x11223344;
 
 // How a channel of the worked cases is set.
-pub fn setting(mode: u8) -> Setting {
+pub(crate) fn setting(mode: u8) -> Setting {
     Setting {
         mode: mode,
         session: SESSION,
@@ -41,7 +41,7 @@ fn show(built: Built, out: &[u8]) {
     print::text(b"\n");
 }
 
-pub fn both_modes() {
+pub(crate) fn both_modes() {
     let mut out = [0u8; 32];
     print::text(b"mode 0,");
     let clear = at_five(0).build(b"\xA0\xA1\xA2", b"", &mut out);
@@ -51,7 +51,7 @@ pub fn both_modes() {
     show(hidden, &out);
 }
 
-pub fn nonce() {
+pub(crate) fn nonce() {
     let iv = [0, 1, 2, 3, 4, 5, 6, 7, 8, 9, 10, 11];
     let n = record::nonce(setting(0), iv, 0x0102);
     print::text(b"nonce of 0x0102:");

@@ -20,7 +20,7 @@ fn size(name: &[u8], mode: u8, p: usize, q: usize) {
     print::text(b" in all\n");
 }
 
-pub fn largest() {
+pub(crate) fn largest() {
     size(b"mode 0, P = 65519", 0, 65519, 0);
     size(b"mode 0, P = 65520", 0, 65520, 0);
     size(b"mode 1, P + R = 65517", 1, 65000, 517);
@@ -46,7 +46,7 @@ fn settled(name: &[u8], r: Receiver, rec: &[u8], n: u8) -> Receiver {
     settled.next
 }
 
-pub fn smallest() {
+pub(crate) fn smallest() {
     let mut first = [0u8; 26];
     let mut second = [0u8; 26];
     let s = Sender::open(records::setting(1), [0; 12]).next;
