@@ -20,7 +20,6 @@ use Rattle.record.proofs.Fronts.{textFor, assocFor}
 use Rattle.record.proofs.Shown.{view-built}
 use Rattle.promises.specs.World.{Sent, sentOf, assocOf}
 use Rattle.promises.proofs.Builds.{buffer-assoc, buffer-text}
-use Rattle.promises.proofs.Passed.{Frame}
 
 -- a record that was built: with some random bytes, its associated data and its text are those of its number and data
 pub record Made (s : Setting) (b : Sent) : Type 0 where
@@ -42,7 +41,7 @@ made-build s app random out e =
     }
 
 -- of a record with its associated data, and with its text, the view is its data
-pub shown : (s : Setting) (b : Sent) (r plain : List ℕ) → badSetting s ≡ false → Made s b → Frame s r → b .assoc ≡ assocOf s r
+pub shown : (s : Setting) (b : Sent) (r plain : List ℕ) → badSetting s ≡ false → Made s b → b .assoc ≡ assocOf s r
     → plain ≡ b .text → viewOf (s .mode) (dataPlace s r) (dataLen s r plain) r plain ≡ b .item .app
-shown s b r plain g M F a t =
+shown s b r plain g M a t =
     rw (t ∙ M .text) (view-built s (b .item .number) r (b .item .app) (M .random) g (M .fits) (sym a ∙ M .assoc))

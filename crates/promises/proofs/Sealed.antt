@@ -192,7 +192,7 @@ module _ {K : Type 0} (C : Cipher K) (sendKey receiveKey : ℕ → K) (t : Setti
       let same : b .item .count ≡ count =
       H .no-reuse (b .item .count) count (omega arith) (omega arith) (B .under-key ∙ sym (H .alike .1 count (omega arith))) in
       let v : viewOf (t .mode) (dataPlace t r) (dataLen t r plain) r plain ≡ b .item .app =
-      shown t b r plain (rw here at good) (subst (λ (s : Setting). Made s b) (H .alike .0 ∙ here) (M .0)) (rw here at (P .frame))
+      shown t b r plain (rw here at good) (subst (λ (s : Setting). Made s b) (H .alike .0 ∙ here) (M .0))
       (rw here at (B .same-assoc)) (H .own .1 (P .cipher .says) ∙ sym (B .same-text)) in
       let e : dataOf t count number r plain ≡ b .item =
       λ i. record { count = sym same i; number = sym (B .under-number) i; app = v i } in

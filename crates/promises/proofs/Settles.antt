@@ -13,7 +13,7 @@ use Rattle.answers.specs.Table.{first}
 use Rattle.channel.proofs.Look.{face-at}
 use Rattle.channel.proofs.Outcome.{answer-ok}
 use Rattle.channel.specs.Call.{Call, offer, settle, Answer, offers, settles}
-use Rattle.channel.specs.Receiver.{look, answerTo}
+use Rattle.channel.specs.Receiver.{look, answerTo, keyOf}
 use Rattle.channel.specs.Rules.{stateRows, slotRows, placeRowsAt, offerRows, cipherRows, markingRows, rows, granted}
 use Rattle.channel.specs.View.{Face, View, noKey, keyAt, countAt, numberAt}
 use Rattle.channel.specs.declared.receiver.Receiver.{Receiver}
@@ -29,7 +29,7 @@ use Rattle.record.specs.declared.setting.Setting.{Setting}
 use Rattle.record.proofs.Fronts.{textFor, same-plain}
 use Rattle.record.proofs.Passes.{inner-passes}
 use Rattle.record.proofs.Shown.{view-built}
-use Rattle.promises.specs.Premises.{CanBuild, keyIn, CanTake}
+use Rattle.promises.specs.Premises.{CanBuild, CanTake}
 use Rattle.promises.specs.ReadBack.{builtOf, wire, plain}
 use Rattle.promises.proofs.Words.{sender-good, receiver-good}
 use Rattle.promises.proofs.Builds.{build-passes, build-answers, buffer-text}
@@ -97,11 +97,11 @@ module _ (s : Sender) (app random out sealed mac : List ℕ) (B : CanBuild s app
     sets = R .alike
 
     number-is : numberAt v record-sent slot ≡ s .next
-    number-is = rw (sets, face-at r slot) (number-found s app random out sealed mac B hc hm (keyIn r slot .window .next) (R .reach))
+    number-is = rw (sets, face-at r slot) (number-found s app random out sealed mac B hc hm (keyOf r slot .window .next) (R .reach))
 
     place-none : first (placeRowsAt v record-sent slot) ≡ 0
     place-none =
-        let w = keyIn r slot .window in
+        let w = keyOf r slot .window in
         let y : w .next - s .next ≤ widthOf (ruleOf t) = rw (R .alike) at (R .young) in
         rw (sets, face-at r slot) (number-passes s app random out sealed mac B hc hm (w .next) (seenBy w) (R .reach) y (R .fresh))
 

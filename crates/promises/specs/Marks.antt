@@ -5,11 +5,10 @@ use mathlib.Core.Path.{_≡_}
 use mathlib.Core.Bool.{true, false, _&&_, _||_}
 use lib.Dec.{leb, eqb}
 use Rattle.channel.specs.Call.{Call, offer, settle, gaps, changeKey, dropOld}
-use Rattle.channel.specs.Receiver.{stateAfter}
+use Rattle.channel.specs.Receiver.{stateAfter, keyOf}
 use Rattle.channel.specs.declared.receiver.Receiver.{Receiver}
 use Rattle.numbers.specs.Contract.{widthOf, seenBy}
 use Rattle.record.specs.Setting.{ruleOf}
-use Rattle.promises.specs.Premises.{keyIn}
 
 -- x is r with the number n marked under the key of the slot, and just that
 pub record MarksJust (r x : Receiver) (slot n : ℕ) : Type 0 where
@@ -19,12 +18,12 @@ pub record MarksJust (r x : Receiver) (slot n : ℕ) : Type 0 where
   -- the key of the other slot
   pub other-old : eqb slot 0 ≡ true → x .old ≡ r .old
   pub other-current : eqb slot 0 ≡ false → x .current ≡ r .current
-  pub iv : keyIn x slot .iv ≡ keyIn r slot .iv
+  pub iv : keyOf x slot .iv ≡ keyOf r slot .iv
   -- E is one more than n, or what it was where that is more
-  pub next : keyIn x slot .window .next ≡ max (keyIn r slot .window .next) (n + 1)
+  pub next : keyOf x slot .window .next ≡ max (keyOf r slot .window .next) (n + 1)
   -- within the width from it a number is marked where it is n or was marked before, and beyond that none is
-  pub seen : (k : ℕ) → seenBy (keyIn x slot .window) k
-      ≡ (leb (keyIn x slot .window .next) (k + widthOf (ruleOf (r .setting))) && (eqb k n || seenBy (keyIn r slot .window) k))
+  pub seen : (k : ℕ) → seenBy (keyOf x slot .window) k
+      ≡ (leb (keyOf x slot .window .next) (k + widthOf (ruleOf (r .setting))) && (eqb k n || seenBy (keyOf r slot .window) k))
 
 -- the call is a Settle, and the state that it returns is the one given with its number marked, and just that
 abbrev pub Marked : Receiver → Call → Type 0

@@ -8,7 +8,6 @@ use mathlib.Core.List.{List}
 use lib.ListN.{length}
 use Rattle.channel.specs.Reasons.{BadReceiver, BadSender}
 use Rattle.channel.specs.Receiver.{keyOf}
-use Rattle.channel.specs.declared.key.Key.{Key}
 use Rattle.channel.specs.declared.receiver.Receiver.{Receiver}
 use Rattle.channel.specs.declared.sender.Sender.{Sender}
 use Rattle.numbers.specs.Contract.{widthOf, seenBy}
@@ -39,10 +38,6 @@ pub record CanBuild (s : Sender) (app random out : List ℕ) : Type 0 where
 
 -- ---- the receiver
 
--- the key in a slot
-abbrev pub keyIn : Receiver → ℕ → Key
-keyIn r slot = keyOf r slot
-
 -- n is the sender's next number, E that of the key in the slot
 pub record CanTake (r : Receiver) (slot : ℕ) (s : Sender) : Type 0 where
   -- it is not State
@@ -52,13 +47,13 @@ pub record CanTake (r : Receiver) (slot : ℕ) (s : Sender) : Type 0 where
   -- slot 0, or an old key is held
   pub there : (slot ≡ 0) ⊎ ((slot ≡ 1) × (r .held ≡ true))
   -- the sender's IV is in that slot
-  pub iv : keyIn r slot .iv ≡ s .iv
+  pub iv : keyOf r slot .iv ≡ s .iv
   -- exactly where the number worked out from the low 16 bits is n: E ≤ n + 32768, and n ≤ E + 32767 or n ≤ 65535
-  pub reach : Reached (keyIn r slot .window .next) (s .next)
+  pub reach : Reached (keyOf r slot .window .next) (s .next)
   -- E - n is at most 64
-  pub young : keyIn r slot .window .next - s .next ≤ widthOf (ruleOf (r .setting))
+  pub young : keyOf r slot .window .next - s .next ≤ widthOf (ruleOf (r .setting))
   -- n is not marked
-  pub fresh : seenBy (keyIn r slot .window) (s .next) ≡ false
+  pub fresh : seenBy (keyOf r slot .window) (s .next) ≡ false
 
 -- ---- page 01's numbers
 
