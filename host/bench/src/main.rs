@@ -15,11 +15,11 @@ const RECORDS: usize = 4096;
 /// Records of a set whose length is compared: the long ones' headers must stay in the caches.
 const FEW: usize = 32;
 
-/// Whether an emulator runs this: it shows the other processor's description, which names no maker of
-/// x86-64 processors.
+/// Whether an emulator runs this: x86-64 code where the processor's description names no maker of such
+/// processors.
 fn emulated() -> bool {
     let text = std::fs::read_to_string("/proc/cpuinfo").unwrap_or_default();
-    !["GenuineIntel", "AuthenticAMD"].iter().any(|maker| text.contains(maker))
+    cfg!(target_arch = "x86_64") && !["GenuineIntel", "AuthenticAMD"].iter().any(|maker| text.contains(maker))
 }
 
 /// Reading, against the quick reference.
