@@ -4,7 +4,7 @@ use Prim.Native.Nat.{ℕ, zero, suc, _+_, _*_, _/_, _%_, _^_, _<_}
 use mathlib.Core.List.{List, [], _∷_, _++_, append-assoc, reverse, reverse-cons, reverse-reverse}
 use mathlib.Core.Path.{_≡_, refl, sym, ap, _∙_}
 use native.Mathlib.Numerals.{add-one}
-use native.Mathlib.Nat.{zero-add, pow-suc, mod-eq-of-lt}
+use native.Mathlib.Nat.{zero-add, add-zero, pow-suc, mod-eq-of-lt}
 use lib.Arith.{mod-mul}
 use native.Mathlib.Omega.{arith}
 use lib.ListN.{length, getD, length-reverse}
@@ -44,6 +44,15 @@ little-length (suc k) n = ap suc (little-length k (n / 256))
 pub little-one : (k a b : ℕ) → a < 256 ^ k → b < 256 ^ k → little k a ≡ little k b → a ≡ b
 little-one k a b p q e =
     sym (field-at [] k a [] p) ∙ ap (λ (l : List ℕ). field (l ++ []) 0 k) e ∙ field-at [] k b [] q
+
+-- a byte of the number read from k bytes is the byte at that place
+pub little-field : (s : List ℕ) → ((j : ℕ) → getD s j 0 < 256) → (at k i : ℕ) → i < k → getD (little k (field s at k)) i 0 ≡ getD s (at + i) 0
+unfolding field
+little-field s b at zero i h = absurd (omega arith)
+little-field s b at (suc k) zero h = rw add-zero (omega (arith, b at))
+little-field s b at (suc k) (suc i) h =
+    let rest : (getD s at 0 + 256 * field s (at + 1) k) / 256 ≡ field s (at + 1) k = omega (arith, b at) in
+    rw rest (little-field s b (at + 1) k i (omega arith) ∙ ap (λ (j : ℕ). getD s j 0) (omega arith))
 
 -- ---- big-endian
 

@@ -3,6 +3,8 @@
 use Rattle.answers.proofs.OneAnswer.{OneAnswer, one}
 use Rattle.octets.proofs.fields.little16.Reads as little16
 use Rattle.octets.proofs.fields.little32.Reads as little32
+use Rattle.octets.proofs.fields.word_of.Reads as word-of
+use Rattle.octets.proofs.fields.bytes_of.Reads as bytes-of
 use Rattle.octets.proofs.fields.blank12.Reads as blank12
 use Rattle.octets.proofs.parts.part.Reads as part
 use Rattle.octets.proofs.parts.put.Reads as put
@@ -14,6 +16,12 @@ little16-one κs a x y s t p q = one p q
 
 pub little32-one : OneAnswer little32.Post (λ κs x s. x)
 little32-one κs a x y s t p q = one p q
+
+pub word-of-one : OneAnswer word-of.Post (λ κs x s. x)
+word-of-one κs a x y s t p q = one p q
+
+pub bytes-of-one : OneAnswer bytes-of.Post (λ κs x s. x)
+bytes-of-one κs a x y s t p q = one p q
 
 pub blank12-one : OneAnswer blank12.Post (λ κs x s. x)
 blank12-one κs a x y s t p q = one p q
