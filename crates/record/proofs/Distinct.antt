@@ -23,6 +23,11 @@ each-at f i zero j h = absurd (omega arith)
 each-at f i (suc k) zero h = ap f (omega arith)
 each-at f i (suc k) (suc j) h = each-at f (i + 1) k j (omega arith) ∙ ap f (omega arith)
 
+-- functions that agree below the end give one list
+pub each-same : (f g : ℕ → ℕ) (i k : ℕ) → ((j : ℕ) → j < i + k → f j ≡ g j) → each f i k ≡ each g i k
+each-same f g i zero e = refl
+each-same f g i (suc k) e = rw (e i (omega arith), each-same f g (i + 1) k (λ j h. e j (omega arith)))
+
 -- each byte of a XORed with that of the IV
 abbrev pub masked : List ℕ → List ℕ → ℕ → ℕ
 masked iv a i = bitXor (getD a i 0) (getD iv i 0)
