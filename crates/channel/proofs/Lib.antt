@@ -1,4 +1,5 @@
 pub mod Outcome
+pub mod State
 pub mod Look
 pub mod Calls
 pub mod Build

@@ -90,10 +90,14 @@ impl Receiver {
         let current = self.current;
         let old = self.old;
         let rule = setting.rule();
-        setting.is_bad()
-            | (!current.sound(rule)
-                | (!old.sound(rule)
-                    | ((!self.held & !old.is_zero()) | (self.held & (self.count == 0)))))
+        if setting.is_bad() | !current.sound(rule) {
+            return true;
+        }
+        if self.held {
+            return !old.sound(rule) | (self.count == 0);
+        }
+        // Zeros have a sound window, so that it need not be asked.
+        !old.is_zero()
     }
 
     pub(crate) fn no_key(self, slot: u8) -> bool

@@ -217,6 +217,13 @@ pub sound-none : (r : Rule) → soundWindow r emptyWindow ≡ true
 unfolding windowOf
 sound-none r = remembers-sound r emptyWindow [] (remembers-none r) (omega arith)
 
+-- so a window that is empty is sound, under every rule
+pub empty-sound : (r : Rule) (s : Window) → isEmpty s ≡ true → soundWindow r s ≡ true
+unfolding isEmpty soundWindow windowOf
+empty-sound r s h =
+    let p = and-eq-true-iff (eqb (s .next) 0) (eqb (wordOf (s .marks)) 0) .0 h in
+    rw (eqb-true (s .next) 0 (p .0), eqb-true (wordOf (s .marks)) 0 (p .1)) (simp (word-of 0 0 (pow-pos most)) at (sound-none r))
+
 -- every sound window shows some list of usable numbers
 pub sound-remembers : (r : Rule) (s : Window) → soundWindow r s ≡ true → (xs : List ℕ) × Below (r .limit) xs × Remembers r s xs
 unfolding soundWindow
