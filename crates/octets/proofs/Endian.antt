@@ -1,14 +1,14 @@
 -- A number written in bytes and read again, at any place and of any width: little-endian, and big-endian as its mirror.
 -- Assumes nothing.
-use Prim.Native.Nat.{ℕ, zero, suc, _+_, _*_, _/_, _%_, _^_, _<_}
+use Prim.Native.Nat.{ℕ, zero, suc, _+_, _*_, _/_, _%_, _^_, _<_, _≤_}
 use mathlib.Core.List.{List, [], _∷_, _++_, append-assoc, reverse, reverse-cons, reverse-reverse}
 use mathlib.Core.Path.{_≡_, refl, sym, ap, _∙_}
 use native.Mathlib.Numerals.{add-one}
 use native.Mathlib.Nat.{zero-add, add-zero, pow-suc, mod-eq-of-lt}
 use lib.Arith.{mod-mul}
 use native.Mathlib.Omega.{arith}
-use lib.ListN.{length, getD, length-reverse}
-use lib.Seq.{getD-at, getD-append-add}
+use lib.ListN.{length, take, drop, getD, length-reverse}
+use lib.Seq.{drop-cons, getD-at, getD-append-add}
 use Rattle.octets.specs.Fields.{field, bigField, little, big}
 
 field-next : (x : ℕ) (s : List ℕ) (at k : ℕ) → field (x ∷ s) (at + 1) k ≡ field s at k
@@ -40,19 +40,30 @@ pub little-length : (k n : ℕ) → length (little k n) ≡ k
 little-length zero n = refl
 little-length (suc k) n = ap suc (little-length k (n / 256))
 
+-- k bytes of s are those of the number in them
+pub little-field : (s : List ℕ) (at k : ℕ) → ((i : ℕ) → getD s i 0 < 256) → at + k ≤ length s
+    → little k (field s at k) ≡ take k (drop at s)
+unfolding field
+little-field s at zero b h = refl
+little-field s at (suc k) b h =
+    let n : ℕ = field s at (suc k) in
+    let low : n % 256 ≡ getD s at 0 = omega (arith, b at) in
+    let high : n / 256 ≡ field s (at + 1) k = omega (arith, b at) in
+    rw (low, high, little-field s (at + 1) k b (omega arith), add-one, drop-cons s at 0 (omega arith))
+
 -- two numbers with the same k bytes are one
 pub little-one : (k a b : ℕ) → a < 256 ^ k → b < 256 ^ k → little k a ≡ little k b → a ≡ b
 little-one k a b p q e =
     sym (field-at [] k a [] p) ∙ ap (λ (l : List ℕ). field (l ++ []) 0 k) e ∙ field-at [] k b [] q
 
 -- a byte of the number read from k bytes is the byte at that place
-pub little-field : (s : List ℕ) → ((j : ℕ) → getD s j 0 < 256) → (at k i : ℕ) → i < k → getD (little k (field s at k)) i 0 ≡ getD s (at + i) 0
+pub byte-field : (s : List ℕ) → ((j : ℕ) → getD s j 0 < 256) → (at k i : ℕ) → i < k → getD (little k (field s at k)) i 0 ≡ getD s (at + i) 0
 unfolding field
-little-field s b at zero i h = absurd (omega arith)
-little-field s b at (suc k) zero h = rw add-zero (omega (arith, b at))
-little-field s b at (suc k) (suc i) h =
+byte-field s b at zero i h = absurd (omega arith)
+byte-field s b at (suc k) zero h = rw add-zero (omega (arith, b at))
+byte-field s b at (suc k) (suc i) h =
     let rest : (getD s at 0 + 256 * field s (at + 1) k) / 256 ≡ field s (at + 1) k = omega (arith, b at) in
-    rw rest (little-field s b (at + 1) k i (omega arith) ∙ ap (λ (j : ℕ). getD s j 0) (omega arith))
+    rw rest (byte-field s b (at + 1) k i (omega arith) ∙ ap (λ (j : ℕ). getD s j 0) (omega arith))
 
 -- ---- big-endian
 

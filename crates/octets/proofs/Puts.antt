@@ -27,6 +27,10 @@ pub field-four : (s : List ℕ) (at : ℕ) → field s at 4 ≡ field s at 2 + 6
 unfolding field
 field-four s at = omega arith
 
+pub field-eight : (s : List ℕ) (at : ℕ) → field s at 8 ≡ field s at 4 + 4294967296 * field s (at + 1 + 1 + 1 + 1) 4
+unfolding field
+field-eight s at = omega arith
+
 pub put-fits : (d : List ℕ) (at : ℕ) (src : List ℕ) → at + length src ≤ length d → over d at src ≡ put d at src
 unfolding put
 put-fits d at src h = rw (le-leb _ _ h)

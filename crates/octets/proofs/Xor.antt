@@ -7,7 +7,7 @@ use native.Mathlib.Nat.{zero-add}
 use native.Mathlib.Omega.{arith}
 use lib.Bits.{differ, bitXor, xor-step, xor-shr, xor-mod, xor-comm}
 use lib.ListN.{getD}
-use Rattle.octets.proofs.Endian.{little-field}
+use Rattle.octets.proofs.Endian.{byte-field}
 use Rattle.octets.specs.Fields.{field, little}
 
 -- two digits differ by their distance
@@ -43,4 +43,4 @@ pub xor-field : (s : List ℕ) → ((j : ℕ) → getD s j 0 < 256) → (k n i :
 xor-field s b k n i h =
     xor-little k (field s 0 k) n i
     ∙ xor-comm (getD (little k (field s 0 k)) i 0) (getD (little k n) i 0)
-    ∙ ap (bitXor (getD (little k n) i 0)) (rw zero-add at (little-field s b 0 k i h))
+    ∙ ap (bitXor (getD (little k n) i 0)) (rw zero-add at (byte-field s b 0 k i h))
