@@ -1,0 +1,43 @@
+-- The parts of an end and the words that they lie in. A word is cut to what its field holds: the bits above are padding.
+-- Assumes nothing.
+use Prim.Native.Nat.{ℕ, _%_}
+use mathlib.Core.Bool.{Bool, cond}
+use mathlib.Core.List.{List, [], _∷_, _++_}
+use lib.Dec.{eqb}
+use Rattle.octets.specs.Fields.{field, little}
+use Rattle.numbers.specs.Word.{wordOf}
+use Rattle.numbers.specs.Contract.{windowOf}
+use Rattle.record.specs.declared.setting.Setting.{Setting}
+use Rattle.channel.specs.declared.key.Key.{Key}
+
+-- ---- read
+
+abbrev pub settingOf : ℕ → ℕ → ℕ → Setting
+settingOf mode session limit = record { mode = mode % 256; session = session % 4294967296; limit = limit }
+
+abbrev pub countOf : ℕ → ℕ
+countOf count = count % 4294967296
+
+-- the first eight bytes of an IV are one word, the last four another
+unfoldable pub ivOf : ℕ → ℕ → List ℕ
+ivOf head tail = little 8 head ++ little 4 tail
+
+abbrev pub keyOf : ℕ → ℕ → ℕ → ℕ → Key
+keyOf head tail next marks = record { iv = ivOf head tail; window = windowOf next marks }
+
+abbrev pub heldOf : ℕ → Bool
+heldOf held = eqb (held % 2) 1
+
+-- ---- written
+
+abbrev pub settingWords : Setting → List ℕ
+settingWords s = s .mode ∷ s .session ∷ s .limit ∷ []
+
+abbrev pub ivWords : List ℕ → List ℕ
+ivWords iv = field iv 0 8 ∷ field iv 8 4 ∷ []
+
+abbrev pub keyWords : Key → List ℕ
+keyWords k = ivWords (k .iv) ++ (k .window .next ∷ wordOf (k .window .marks) ∷ [])
+
+abbrev pub heldWord : Bool → ℕ
+heldWord held = cond held 1 0

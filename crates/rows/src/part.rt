@@ -1,0 +1,88 @@
+// The parts of an end and their words. A word is cut to what its field holds: the bits above are
+// padding.
+use channel::Key;
+use numbers::Marks;
+use numbers::Window;
+use record::Setting;
+ghost use mathlib.Core.Path.{_≡_};
+ghost use lib.ListN.{getD};
+ghost use Rattle.rows.specs.Part.{settingOf, countOf, ivOf, keyOf, heldOf, settingWords, ivWords, keyWords, heldWord};
+
+// What half a word holds is below this.
+const HALF: u64 = 4294967296;
+
+pub(crate) fn setting_of(mode: u64, session: u64, limit: u64) -> Setting
+    ensures { λ r. ⌜ r ≡ settingOf mode session limit ⌝ }
+{
+    Setting {
+        mode: (mode % 256) as u8,
+        session: (session % HALF) as u32,
+        limit: limit,
+    }
+}
+
+pub(crate) fn count_of(count: u64) -> u32
+    ensures { λ r. ⌜ r ≡ countOf count ⌝ }
+{
+    (count % HALF) as u32
+}
+
+// The IV whose first eight bytes are one word, and whose last four another.
+pub(crate) fn iv_of(head: u64, tail: u64) -> [u8; 12]
+    ensures { λ r. ⌜ r ≡ ivOf head tail ⌝ }
+{
+    let mut iv = [0u8; 12];
+    octets::put_little32(&mut iv, 0, head);
+    octets::put_little32(&mut iv, 4, head / HALF);
+    octets::put_little32(&mut iv, 8, tail);
+    iv
+}
+
+pub(crate) fn key_of(head: u64, tail: u64, next: u64, marks: u64) -> Key
+    ensures { λ r. ⌜ r ≡ keyOf head tail next marks ⌝ }
+{
+    let window = Window {
+        next: next,
+        marks: Marks { word: marks },
+    };
+    Key {
+        iv: iv_of(head, tail),
+        window: window,
+    }
+}
+
+// Here and below: the words written, and that they are read back as what was written.
+pub(crate) fn setting_words(setting: Setting) -> [u64; 3]
+    ensures { λ r. ⌜ (r ≡ settingWords setting) × (settingOf (getD r 0 0) (getD r 1 0) (getD r 2 0) ≡ setting) ⌝ }
+{
+    [setting.mode as u64, setting.session as u64, setting.limit]
+}
+
+pub(crate) fn count_word(count: u32) -> u64
+    ensures { λ r. ⌜ (r ≡ count) × (countOf r ≡ count) ⌝ }
+{
+    count as u64
+}
+
+pub(crate) fn held_word(held: bool) -> u64
+    ensures { λ r. ⌜ (r ≡ heldWord held) × (heldOf r ≡ held) ⌝ }
+{
+    held as u64
+}
+
+pub(crate) fn iv_words(iv: [u8; 12]) -> [u64; 2]
+    ensures { λ r. ⌜ (r ≡ ivWords iv) × (ivOf (getD r 0 0) (getD r 1 0) ≡ iv) ⌝ }
+{
+    let low = octets::little32(&iv, 0) as u64;
+    let high = octets::little32(&iv, 4) as u64;
+    let tail = octets::little32(&iv, 8) as u64;
+    [low + HALF * high, tail]
+}
+
+pub(crate) fn key_words(key: Key) -> [u64; 4]
+    ensures { λ r. ⌜ (r ≡ keyWords key) × (keyOf (getD r 0 0) (getD r 1 0) (getD r 2 0) (getD r 3 0) ≡ key) ⌝ }
+{
+    let iv = key.iv;
+    let w = iv_words(iv);
+    [w[0], w[1], key.window.next, key.window.marks.word]
+}
