@@ -67,9 +67,20 @@ Wrapped = 20
 abbrev pub Frame : ℕ
 Frame = 21
 
--- the largest of them
+-- the largest of page 01's own
 abbrev pub Largest : ℕ
 Largest = 21
+
+-- ---- those of the controller's table
+
+abbrev pub Twice : ℕ
+Twice = 22
+
+abbrev pub Rows : ℕ
+Rows = 23
+
+abbrev pub Unknown : ℕ
+Unknown = 24
 
 -- the refusals of an authentic record: its number is marked all the same
 unfoldable pub marks : ℕ → Bool
