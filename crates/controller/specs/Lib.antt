@@ -1,0 +1,5 @@
+pub mod Table
+pub mod Doors
+pub mod Calls
+pub mod Words
+pub mod Answers
