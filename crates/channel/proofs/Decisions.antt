@@ -72,7 +72,7 @@ module _ (r : Receiver) (t : TypedKey (r .old)) where
       told-join (slotRows (look r) slot) _ (slotReasons r slot) _ (slot-told slot)
       (told-join (recordRows (r .setting) rec) _ (recordReasons (r .setting) rec) _ (record-told (r .setting) rec) (place-told rec slot))
 
-  rows-told : (c : Call) → Told (rows (look r) c) (reasons r c)
+  pub rows-told : (c : Call) → Told (rows (look r) c) (reasons r c)
   unfolding rows stateRows cipherRows markingRows look
   rows-told (offer rec slot) = offer-told rec slot
   rows-told (settle rec slot count number passed plain) =
@@ -103,7 +103,7 @@ open-sender-decided s iv =
     refl (λ k. refl) (openSender s iv) (first (openRows s)) refl))
 
 module _ (s : Sender) where
-  build-told : (p q room : ℕ) → Told (buildRows s p q room) (buildReasons s p q room)
+  pub build-told : (p q room : ℕ) → Told (buildRows s p q room) (buildReasons s p q room)
   unfolding buildRows senderRows
   build-told p q room = (
     told-row (bad-sender s),
@@ -119,9 +119,13 @@ module _ (s : Sender) where
       decided (buildRows s p q room) (buildReasons s p q room) (build-told p q room) _
       (sym (why-is (λ (x : Built). x .answer) (built s p q) (noBuild s) refl (λ k. refl) (buildOf s p q room) (first (buildRows s p q room)) refl))
 
+  pub change-told : Told (changeRows s) (changeReasons s)
+  unfolding changeRows senderRows
+  change-told = (told-row (bad-sender s), (told-row (tells-eq _ _), tt))
+
   pub change-sender-decided : (iv : List ℕ) → Decided (changeSender s iv .answer) (changeReasons s)
-  unfolding changeSender changeRows senderRows
+  unfolding changeSender
   change-sender-decided iv =
-      decided (changeRows s) (changeReasons s) (told-row (bad-sender s), (told-row (tells-eq _ _), tt)) _
+      decided (changeRows s) (changeReasons s) change-told _
       (sym (why-is (λ (x : SenderStep). x .answer) (record { answer = 0; next = turnTo s iv }) (λ why. record { answer = why; next = s })
       refl (λ k. refl) (changeSender s iv) (first (changeRows s)) refl))

@@ -26,7 +26,8 @@ use Rattle.record.specs.Write.{formRows, roomRows, frontOf}
 -- ---- Build
 
 module _ (s : Sender) (p q room : ℕ) where
-  build-why : first (buildRows s p q room) ≡ buildOf s p q room .answer
+  -- its answer is its table's
+  pub build-why : first (buildRows s p q room) ≡ buildOf s p q room .answer
   unfolding buildOf
   build-why = why-is (λ (b : Built). b .answer) (built s p q) (noBuild s) refl (λ k. refl) (buildOf s p q room) (first (buildRows s p q room)) refl
 
@@ -53,7 +54,8 @@ refused-build s app random out h = (
 -- ---- the key change
 
 module _ (s : Sender) (iv : List ℕ) where
-  turn-why : first (changeRows s) ≡ changeSender s iv .answer
+  -- its answer is its table's
+  pub turn-why : first (changeRows s) ≡ changeSender s iv .answer
   unfolding changeSender
   turn-why =
       why-is (λ (x : SenderStep). x .answer) (record { answer = 0; next = turnTo s iv }) (λ why. record { answer = why; next = s }) refl (λ k. refl)
