@@ -1,0 +1,7 @@
+pub mod Reach
+pub mod Marking
+pub mod Reasons
+pub mod TableRun
+pub mod RowRun
+pub mod Peer
+pub mod Examples

@@ -1,0 +1,1 @@
+// No code: the demands over whole runs of the controller's table.
