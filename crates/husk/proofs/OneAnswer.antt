@@ -1,10 +1,14 @@
--- Of each function of the boundary: two answers that its contract allows are equal, and so are two buffers and two lent parts at exit.
+-- Of each function of the boundary: two answers that its contract allows are equal, and so are two buffers, two tables and two lent parts at exit.
 -- Assumes nothing.
 use Prim.Native.Nat.{ℕ}
 use mathlib.Core.List.{List}
+use mathlib.Core.Path.{_≡_}
 use denote.Ref.{now}
 use Rattle.answers.proofs.OneAnswer.{OneAnswer, one}
 use Rattle.mctp.specs.declared.led.Wrote.{Wrote}
+use Rattle.controller.specs.declared.opening.Opened.{Opened}
+use Rattle.controller.specs.declared.receiving.Taken.{Taken}
+use Rattle.controller.specs.declared.sending.Sent.{Sent}
 use Rattle.husk.proofs.sender.husk_open_sender.Reads as open-sender
 use Rattle.husk.proofs.sender.husk_build.Reads as build
 use Rattle.husk.proofs.sender.husk_change_sender.Reads as change-sender
@@ -21,6 +25,15 @@ use Rattle.husk.proofs.wrapping.husk_body_of.Reads as body-of
 use Rattle.husk.proofs.wrapping.husk_wrap_record.Reads as wrap-record
 use Rattle.husk.proofs.wrapping.husk_read_message.Reads as read-message
 use Rattle.husk.proofs.wrapping.husk_record_of.Reads as record-of
+use Rattle.husk.proofs.table.husk_table_open.Reads as table-open
+use Rattle.husk.proofs.table.husk_table_close.Reads as table-close
+use Rattle.husk.proofs.table.husk_table_offer.Reads as table-offer
+use Rattle.husk.proofs.table.husk_table_settle.Reads as table-settle
+use Rattle.husk.proofs.table.husk_table_build.Reads as table-build
+use Rattle.husk.proofs.table.husk_table_gaps.Reads as table-gaps
+use Rattle.husk.proofs.table.husk_table_change_receiver.Reads as table-change-receiver
+use Rattle.husk.proofs.table.husk_table_change_sender.Reads as table-change-sender
+use Rattle.husk.proofs.table.husk_table_drop.Reads as table-drop
 
 pub open-sender-one : OneAnswer open-sender.Post (λ κs x s. x)
 open-sender-one κs a x y s t p q = one p q
@@ -75,3 +88,39 @@ read-message-one κs a x y s t p q = one p q
 
 pub record-of-one : OneAnswer {B = List ℕ} record-of.Post (λ κs x s. now (now (s .1 .0)))
 record-of-one κs a x y s t p q = one p q
+
+-- ---- the table's calls: the answer, and the table where it is changed
+
+-- the words of the table
+abbrev Words : Type 0
+Words = List (List ℕ)
+
+pub table-open-one : OneAnswer {B = Opened × Words} table-open.Post (λ κs x s. (x, s .0 .now))
+table-open-one κs a x y s t p q i =
+    let two : _≡_ {A = ℕ × ℕ} (x .answer, x .row) (y .answer, y .row) = one (p .0) (q .0) in
+    (record { answer = two i .0; row = two i .1 }, one (p .1) (q .1) i)
+
+pub table-close-one : OneAnswer {B = ℕ × Words} table-close.Post (λ κs x s. (x, s .0 .now))
+table-close-one κs a x y s t p q i = (one (p .0) (q .0) i, one (p .1) (q .1) i)
+
+pub table-offer-one : OneAnswer table-offer.Post (λ κs x s. x)
+table-offer-one κs a x y s t p q = one p q
+
+pub table-settle-one : OneAnswer {B = Taken × Words} table-settle.Post (λ κs x s. (x, s .0 .now))
+table-settle-one κs a x y s t p q i = (one (p .0) (q .0) i, one (p .1) (q .1) i)
+
+-- and its buffer
+pub table-build-one : OneAnswer {B = Sent × List ℕ × Words} table-build.Post (λ κs x s. (x, s .1 .1 .1 .1 .0 .now, s .0 .now))
+table-build-one κs a x y s t p q i = (one (p .0) (q .0) i, one (p .1) (q .1) i, one (p .2) (q .2) i)
+
+pub table-gaps-one : OneAnswer table-gaps.Post (λ κs x s. x)
+table-gaps-one κs a x y s t p q = one p q
+
+pub table-change-receiver-one : OneAnswer {B = ℕ × Words} table-change-receiver.Post (λ κs x s. (x, s .0 .now))
+table-change-receiver-one κs a x y s t p q i = (one (p .0) (q .0) i, one (p .1) (q .1) i)
+
+pub table-change-sender-one : OneAnswer {B = ℕ × Words} table-change-sender.Post (λ κs x s. (x, s .0 .now))
+table-change-sender-one κs a x y s t p q i = (one (p .0) (q .0) i, one (p .1) (q .1) i)
+
+pub table-drop-one : OneAnswer {B = ℕ × Words} table-drop.Post (λ κs x s. (x, s .0 .now))
+table-drop-one κs a x y s t p q i = (one (p .0) (q .0) i, one (p .1) (q .1) i)

@@ -2,6 +2,7 @@
 // that is neither 0 nor 1 would be changed on its way in; any other byte is no.
 mod receiver;
 mod sender;
+mod table;
 mod wrapping;
 
 pub use receiver::husk_change_receiver;
@@ -15,6 +16,15 @@ pub use sender::Iv;
 pub use sender::husk_build;
 pub use sender::husk_change_sender;
 pub use sender::husk_open_sender;
+pub use table::husk_table_build;
+pub use table::husk_table_change_receiver;
+pub use table::husk_table_change_sender;
+pub use table::husk_table_close;
+pub use table::husk_table_drop;
+pub use table::husk_table_gaps;
+pub use table::husk_table_offer;
+pub use table::husk_table_open;
+pub use table::husk_table_settle;
 pub use wrapping::husk_body_of;
 pub use wrapping::husk_read_data;
 pub use wrapping::husk_read_message;
