@@ -1,4 +1,4 @@
-/* Hazelhusk 1.0: SPDM secured records over MCTP, for C.
+/* Hazelhusk 1.1: SPDM secured records over MCTP, for C.
  *
  * Link target/staticlib/libhusk.a. It needs nothing else: no heap, no C library, no global state.
  *
@@ -21,6 +21,9 @@
  *   - Seal what build wrote with the nonce and ends that it answered, and put the 16 MAC bytes at text.
  *     A built number is spent, whatever the cipher did.
  *   - Use a new key and IV for every change of key, at both ends, and drop the old one after KT1.
+ *
+ * A controller keeps a receiver and a sender for each of up to sixteen boards in one table: see
+ * hazelhusk_controller, where also stands what you must do for it.
  */
 #ifndef HAZELHUSK_H
 #define HAZELHUSK_H
@@ -35,13 +38,14 @@ extern "C" {
 #endif
 
 /* It changes whenever a struct below does. */
-#define HAZELHUSK_VERSION 1
+#define HAZELHUSK_VERSION 2
 
 #define HAZELHUSK_HEADER_BYTES 8u  /* bytes of a record's header */
 #define HAZELHUSK_MAC_BYTES 16u   /* bytes of a record's MAC */
 #define HAZELHUSK_WINDOW_WIDTH 64u  /* numbers that a receive window remembers */
 #define HAZELHUSK_SLOT_CURRENT 0u  /* the slot of the current receive key */
 #define HAZELHUSK_SLOT_OLD 1u     /* the slot of the old one */
+#define HAZELHUSK_ROW_COUNT 16u   /* rows of a controller's table */
 
 /* The refusals. */
 enum {
@@ -66,7 +70,10 @@ enum {
     HAZELHUSK_HELD = 18,    /* an old key is still held */
     HAZELHUSK_EPOCHS = 19,  /* the key count is at its maximum */
     HAZELHUSK_WRAPPED = 20, /* type 6 inside; empty data; a type above 127 */
-    HAZELHUSK_FRAME = 21    /* not a message with a record */
+    HAZELHUSK_FRAME = 21,   /* not a message with a record */
+    HAZELHUSK_TWICE = 22,   /* an open row has that Session ID */
+    HAZELHUSK_ROWS = 23,    /* no row is free */
+    HAZELHUSK_UNKNOWN = 24  /* no open row has that Session ID or that number */
 };
 
 /* ---- states and answers, as they lie in memory */
@@ -126,10 +133,26 @@ typedef struct {
 typedef struct { uint8_t answer; uint64_t length; } hazelhusk_wrote;
 typedef struct { uint8_t answer; bool integrity; uint8_t kind; } hazelhusk_data;
 
+/* A controller's table of sixteen rows, each free or with one receiver and one sender of one Session ID.
+ * All zeros is a table with every row free: there is no call that makes one. */
+typedef struct { uint64_t rows[16][20]; } hazelhusk_controller;
+
+typedef struct { uint8_t answer, row; } hazelhusk_opened;
+typedef struct { uint8_t answer; uint64_t place, length; } hazelhusk_taken;
+
+/* As hazelhusk_built, without a sender. */
+typedef struct {
+    uint8_t answer;
+    uint64_t number;
+    uint8_t nonce[12];
+    uint64_t assoc, text, total;
+} hazelhusk_sent;
+
 /* A part of a buffer that you lent. */
 typedef struct { const uint8_t *bytes; size_t length; } hazelhusk_part;
 
-/* ---- the exported functions, by value. Use those further down, which keep the state for you. */
+/* ---- the exported functions, by value; a table is lent. Use those further down, which keep the state
+ * for you. */
 
 hazelhusk_sender_step husk_open_sender(hazelhusk_setting setting, hazelhusk_iv iv);
 hazelhusk_built husk_build(hazelhusk_sender sender, const uint8_t *app, size_t app_len, const uint8_t *random, size_t random_len, uint8_t *out, size_t out_len);
@@ -147,6 +170,15 @@ void husk_body_of(const uint8_t *app, size_t app_len, hazelhusk_part *out);
 hazelhusk_wrote husk_wrap_record(const uint8_t *rec, size_t rec_len, uint8_t *out, size_t out_len);
 uint8_t husk_read_message(const uint8_t *message, size_t message_len);
 void husk_record_of(const uint8_t *message, size_t message_len, hazelhusk_part *out);
+hazelhusk_opened husk_table_open(hazelhusk_controller *table, hazelhusk_setting setting, hazelhusk_iv iv, hazelhusk_iv iw);
+uint8_t husk_table_close(hazelhusk_controller *table, uint8_t row);
+hazelhusk_offered husk_table_offer(const hazelhusk_controller *table, const uint8_t *rec, size_t rec_len, uint8_t slot);
+hazelhusk_taken husk_table_settle(hazelhusk_controller *table, const uint8_t *rec, size_t rec_len, uint8_t slot, uint32_t count, uint64_t number, uint8_t yes, const uint8_t *plain, size_t plain_len);
+hazelhusk_sent husk_table_build(hazelhusk_controller *table, uint8_t row, const uint8_t *app, size_t app_len, const uint8_t *random, size_t random_len, uint8_t *out, size_t out_len);
+hazelhusk_counted husk_table_gaps(const hazelhusk_controller *table, uint8_t row, uint8_t slot);
+uint8_t husk_table_change_receiver(hazelhusk_controller *table, uint8_t row, hazelhusk_iv iv);
+uint8_t husk_table_change_sender(hazelhusk_controller *table, uint8_t row, hazelhusk_iv iv);
+uint8_t husk_table_drop(hazelhusk_controller *table, uint8_t row);
 
 static inline hazelhusk_iv hazelhusk_iv_of(const uint8_t bytes[12])
 {
@@ -240,6 +272,94 @@ static inline uint8_t hazelhusk_drop(hazelhusk_receiver *receiver)
     hazelhusk_receiver_step step = husk_drop(*receiver);
     *receiver = step.next;
     return step.answer;
+}
+
+/* ---- the controller's table
+ *
+ * A record reaches the row that has its Session ID; every other call names its row, 0 to 15. A call
+ * changes its row and no other. Each answers HAZELHUSK_STATE first where two open rows share a Session
+ * ID or a row's two differ, which no call leads to. HAZELHUSK_UNKNOWN comes before all that the row
+ * itself would say.
+ *
+ * What you must do, beside what is said at the top:
+ *   - Start with zeros (`hazelhusk_controller controller = { 0 };`), and let the calls write the words.
+ *   - Give a channel that is opened its own keys and IVs: a reopened row needs ones that no earlier
+ *     channel of that row and no other row has used. Its numbers begin at 0 again.
+ *   - Give the table to one thread at a time, whichever rows the calls are for, and let no other pointer
+ *     of a call alias it.
+ *   - Between offer and settle open and close no row with that Session ID, and take the key of the row
+ *     that has it.
+ */
+
+/* A new channel: a receiver and a sender of this setting in the lowest free row, whose number `row`
+ * gets. HAZELHUSK_STATE, _SETTING, _TWICE, _ROWS. */
+static inline uint8_t hazelhusk_controller_open(hazelhusk_controller *controller, hazelhusk_setting setting, const uint8_t receive_iv[12], const uint8_t send_iv[12], uint8_t *row)
+{
+    hazelhusk_opened opened = husk_table_open(controller, setting, hazelhusk_iv_of(receive_iv), hazelhusk_iv_of(send_iv));
+    *row = opened.row;
+    return opened.answer;
+}
+
+/* The row is free again, whatever is in it. HAZELHUSK_STATE, _UNKNOWN. */
+static inline uint8_t hazelhusk_controller_close(hazelhusk_controller *controller, uint8_t row)
+{
+    return husk_table_close(controller, row);
+}
+
+/* What the cipher is to check of a record, by the row that has its Session ID. It changes nothing.
+ * HAZELHUSK_STATE, _SHORT, _UNKNOWN, then _STATE, _KEY and _LENGTH to _REPEAT of that row. */
+static inline uint8_t hazelhusk_controller_offer(const hazelhusk_controller *controller, const uint8_t *rec, size_t rec_len, uint8_t slot, hazelhusk_offered *offered)
+{
+    *offered = husk_table_offer(controller, rec, rec_len, slot);
+    return offered->answer;
+}
+
+/* What the cipher said. On 0 the number is marked and `app` is the application data, a part of `plain`,
+ * or of `rec` where `plain_len` is 0 (mode 0); else `app` is empty. HAZELHUSK_STATE, _SHORT, _UNKNOWN,
+ * then _STATE, _KEY and _LENGTH to _INNER of that row. */
+static inline uint8_t hazelhusk_controller_settle(hazelhusk_controller *controller, const uint8_t *rec, size_t rec_len, uint8_t slot, uint32_t count, uint64_t number, uint8_t yes, const uint8_t *plain, size_t plain_len, hazelhusk_part *app)
+{
+    hazelhusk_taken taken = husk_table_settle(controller, rec, rec_len, slot, count, number, yes, plain, plain_len);
+    *app = hazelhusk_view(plain_len != 0, taken.place, taken.length, rec, rec_len, plain, plain_len);
+    return taken.answer;
+}
+
+/* Writes all of a record but its MAC at the start of `out`, with the row's sender, and answers in `sent`
+ * what the cipher needs. HAZELHUSK_STATE, _UNKNOWN, then _STATE, _SPENT, _PADDING, _SIZE, _ROOM of the
+ * row. */
+static inline uint8_t hazelhusk_controller_build(hazelhusk_controller *controller, uint8_t row, const uint8_t *app, size_t app_len, const uint8_t *random, size_t random_len, uint8_t *out, size_t out_len, hazelhusk_sent *sent)
+{
+    *sent = husk_table_build(controller, row, app, app_len, random, random_len, out, out_len);
+    return sent->answer;
+}
+
+/* How many of the last numbers are missing under the key of the row's slot. HAZELHUSK_STATE, _UNKNOWN,
+ * then _STATE, _KEY of the row. */
+static inline uint8_t hazelhusk_controller_gaps(const hazelhusk_controller *controller, uint8_t row, uint8_t slot, uint32_t *gaps)
+{
+    hazelhusk_counted counted = husk_table_gaps(controller, row, slot);
+    *gaps = counted.gaps;
+    return counted.answer;
+}
+
+/* A new receive key of the row: the current one becomes the old one, with its window. HAZELHUSK_STATE,
+ * _UNKNOWN, then _STATE, _HELD, _EPOCHS of the row. */
+static inline uint8_t hazelhusk_controller_change_receiver(hazelhusk_controller *controller, uint8_t row, const uint8_t iv[12])
+{
+    return husk_table_change_receiver(controller, row, hazelhusk_iv_of(iv));
+}
+
+/* A new send key of the row: its IV, and the numbers from 0 again. HAZELHUSK_STATE, _UNKNOWN, then
+ * _STATE, _EPOCHS of the row. */
+static inline uint8_t hazelhusk_controller_change_sender(hazelhusk_controller *controller, uint8_t row, const uint8_t iv[12])
+{
+    return husk_table_change_sender(controller, row, hazelhusk_iv_of(iv));
+}
+
+/* Forgets the old receive key of the row. HAZELHUSK_STATE, _UNKNOWN, then _STATE, _KEY of the row. */
+static inline uint8_t hazelhusk_controller_drop(hazelhusk_controller *controller, uint8_t row)
+{
+    return husk_table_drop(controller, row);
 }
 
 /* ---- the wrapping */

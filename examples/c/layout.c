@@ -23,10 +23,52 @@ AT(offered, assoc, 32); AT(offered, text, 40);
 SIZE(settled, 120); AT(settled, answer, 0); AT(settled, place, 8); AT(settled, length, 16); AT(settled, next, 24);
 SIZE(wrote, 16); AT(wrote, answer, 0); AT(wrote, length, 8);
 SIZE(data, 3); AT(data, answer, 0); AT(data, integrity, 1); AT(data, kind, 2);
+SIZE(controller, 2560); AT(controller, rows, 0); AT(controller, rows[1], 160); AT(controller, rows[15][19], 2552);
+SIZE(opened, 2); AT(opened, answer, 0); AT(opened, row, 1);
+SIZE(taken, 24); AT(taken, answer, 0); AT(taken, place, 8); AT(taken, length, 16);
+SIZE(sent, 56); AT(sent, answer, 0); AT(sent, number, 8); AT(sent, nonce, 16); AT(sent, assoc, 32);
+AT(sent, text, 40); AT(sent, total, 48);
+
+/* Each word of a row is at its place: a channel is opened, used and closed, and the words are read. */
+static int table(void)
+{
+    static const uint8_t in[12] = { 1, 2, 3, 4, 5, 6, 7, 8, 9, 10, 11, 12 }, out[12] = { 21, 22, 23, 24, 25, 26, 27, 28, 29, 30, 31, 32 };
+    static const hazelhusk_controller empty;
+    hazelhusk_controller controller = empty;
+    hazelhusk_setting setting = { 1, 0x82838485, 0x868788898a8b8c8d };
+    hazelhusk_offered offered;
+    hazelhusk_sent sent;
+    hazelhusk_part app;
+    uint8_t row = 99, record[64], plain[3] = { 1, 0, 42 };
+    uint32_t gaps = 99;
+    if (hazelhusk_controller_open(&controller, setting, in, out, &row) || row != 0) return 1;
+    setting.session++;
+    if (hazelhusk_controller_open(&controller, setting, out, in, &row) || row != 1) return 2;
+    if (hazelhusk_controller_open(&controller, setting, out, in, &row) != HAZELHUSK_TWICE || row != 0) return 3;
+    if (hazelhusk_controller_build(&controller, 1, plain, 1, NULL, 0, record, sizeof record, &sent)) return 4;
+    if (sent.number != 0 || sent.assoc != 8 || sent.text != 11 || sent.total != 27 || memcmp(sent.nonce, in, 12)) return 5;
+    if (hazelhusk_controller_offer(&controller, record, sent.total, HAZELHUSK_SLOT_CURRENT, &offered)) return 6;
+    if (offered.count != 0 || offered.number != 0 || offered.assoc != 8 || offered.text != 11 || memcmp(offered.nonce, out, 12)) return 7;
+    if (hazelhusk_controller_settle(&controller, record, sent.total, HAZELHUSK_SLOT_CURRENT, 0, 0, 2, plain, 3, &app) != HAZELHUSK_MAC || app.length) return 8;
+    if (hazelhusk_controller_settle(&controller, record, sent.total, HAZELHUSK_SLOT_CURRENT, 0, 0, 1, plain, 3, &app)) return 9;
+    if (app.bytes != plain + 2 || app.length != 1) return 10;
+    if (hazelhusk_controller_change_receiver(&controller, 1, in) || hazelhusk_controller_change_sender(&controller, 1, out)) return 11;
+    if (hazelhusk_controller_gaps(&controller, 1, HAZELHUSK_SLOT_OLD, &gaps) || gaps != 0) return 12;
+    const uint64_t first = 0x0807060504030201, last = 0x0c0b0a09, other = 0x1c1b1a1918171615, tail = 0x201f1e1d;
+    const uint64_t limit = setting.limit;
+    const uint64_t words[20] = { 1, 0x82838486, limit, 1, first, last, 0, 0, 1, other, tail, 1, 1, 1, 0x82838486, limit, 1, 0, other, tail };
+    const uint64_t fresh[20] = { 1, 0x82838485, limit, 0, first, last, 0, 0, 0, 0, 0, 0, 0, 1, 0x82838485, limit, 0, 0, other, tail };
+    if (memcmp(controller.rows[1], words, sizeof words) || memcmp(controller.rows[0], fresh, sizeof fresh)) return 13;
+    if (hazelhusk_controller_drop(&controller, 1) || hazelhusk_controller_drop(&controller, 1) != HAZELHUSK_KEY) return 14;
+    if (hazelhusk_controller_close(&controller, 0) || hazelhusk_controller_close(&controller, 0) != HAZELHUSK_UNKNOWN) return 15;
+    if (hazelhusk_controller_close(&controller, 1) || hazelhusk_controller_close(&controller, 16) != HAZELHUSK_UNKNOWN) return 16;
+    return memcmp(&controller, &empty, sizeof empty) != 0;
+}
 
 /* A state that is refused comes back as it was: every field crosses the boundary at its place. */
 int main(void)
 {
+    if (table()) return 2;
     hazelhusk_receiver receiver;
     hazelhusk_sender sender;
     memset(&receiver, 0, sizeof receiver);
