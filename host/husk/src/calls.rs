@@ -1,5 +1,6 @@
 //! The exported functions, each behind a safe one.
 use crate::raw::{Built, Counted, Data, Iv, Offered, Receiver, ReceiverStep, Sender, SenderStep, Setting, Settled, Wrote};
+use crate::raw::{Opened, Sent, Table, Taken};
 
 /// A lent part as the boundary hands it back: where it starts and how long it is.
 #[repr(C)]
@@ -38,6 +39,15 @@ extern "C" {
     fn husk_wrap_record(rec: Bytes, rec_len: usize, out: *mut u8, out_len: usize) -> Wrote;
     fn husk_read_message(message: Bytes, message_len: usize) -> u8;
     fn husk_record_of(message: Bytes, message_len: usize, out: *mut Part);
+    fn husk_table_open(table: *mut Table, setting: Setting, iv: Iv, iw: Iv) -> Opened;
+    fn husk_table_close(table: *mut Table, row: u8) -> u8;
+    fn husk_table_offer(table: *const Table, rec: Bytes, rec_len: usize, slot: u8) -> Offered;
+    fn husk_table_settle(table: *mut Table, rec: Bytes, rec_len: usize, slot: u8, count: u32, number: u64, yes: u8, plain: Bytes, plain_len: usize) -> Taken;
+    fn husk_table_build(table: *mut Table, row: u8, app: Bytes, app_len: usize, random: Bytes, random_len: usize, out: *mut u8, out_len: usize) -> Sent;
+    fn husk_table_gaps(table: *const Table, row: u8, slot: u8) -> Counted;
+    fn husk_table_change_receiver(table: *mut Table, row: u8, iv: Iv) -> u8;
+    fn husk_table_change_sender(table: *mut Table, row: u8, iv: Iv) -> u8;
+    fn husk_table_drop(table: *mut Table, row: u8) -> u8;
 }
 
 impl Sender {
@@ -86,6 +96,53 @@ impl Receiver {
     pub fn drop_old(self) -> ReceiverStep {
         // SAFETY: plain data by value.
         unsafe { husk_drop(self) }
+    }
+}
+
+impl Table {
+    pub fn open(&mut self, setting: Setting, receive_iv: [u8; 12], send_iv: [u8; 12]) -> Opened {
+        // SAFETY: the table is lent alone; the rest is plain data by value.
+        unsafe { husk_table_open(self, setting, Iv { bytes: receive_iv }, Iv { bytes: send_iv }) }
+    }
+
+    pub fn close(&mut self, row: u8) -> u8 {
+        // SAFETY: the table is lent alone.
+        unsafe { husk_table_close(self, row) }
+    }
+
+    pub fn offer(&self, rec: &[u8], slot: u8) -> Offered {
+        // SAFETY: the table is lent to be read, and the pointer comes with the length of its slice.
+        unsafe { husk_table_offer(self, rec.as_ptr(), rec.len(), slot) }
+    }
+
+    pub fn settle(&mut self, rec: &[u8], slot: u8, count: u32, number: u64, yes: u8, plain: &[u8]) -> Taken {
+        // SAFETY: the table is lent alone, and each pointer comes with the length of its slice.
+        unsafe { husk_table_settle(self, rec.as_ptr(), rec.len(), slot, count, number, yes, plain.as_ptr(), plain.len()) }
+    }
+
+    pub fn build(&mut self, row: u8, app: &[u8], random: &[u8], out: &mut [u8]) -> Sent {
+        // SAFETY: the table and `out` are each lent alone, and each pointer comes with the length of its slice.
+        unsafe { husk_table_build(self, row, app.as_ptr(), app.len(), random.as_ptr(), random.len(), out.as_mut_ptr(), out.len()) }
+    }
+
+    pub fn gaps(&self, row: u8, slot: u8) -> Counted {
+        // SAFETY: the table is lent to be read.
+        unsafe { husk_table_gaps(self, row, slot) }
+    }
+
+    pub fn change_receiver(&mut self, row: u8, iv: [u8; 12]) -> u8 {
+        // SAFETY: the table is lent alone; the rest is plain data by value.
+        unsafe { husk_table_change_receiver(self, row, Iv { bytes: iv }) }
+    }
+
+    pub fn change_sender(&mut self, row: u8, iv: [u8; 12]) -> u8 {
+        // SAFETY: the table is lent alone; the rest is plain data by value.
+        unsafe { husk_table_change_sender(self, row, Iv { bytes: iv }) }
+    }
+
+    pub fn drop_old(&mut self, row: u8) -> u8 {
+        // SAFETY: the table is lent alone.
+        unsafe { husk_table_drop(self, row) }
     }
 }
 

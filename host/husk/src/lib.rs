@@ -2,8 +2,9 @@
 //!
 //! A [`Sender`] builds records, a [`Receiver`] reads them. The cipher is the host's: it runs between
 //! [`Receiver::offer`] and [`Receiver::settle`], and after [`Sender::build`]. Every call answers for
-//! every state value, record, length and slot; a refusal is an `Err` with page 01's number and name,
-//! changes no buffer, and keeps the state (but [`Refusal::Inner`], which marks its number).
+//! every state value, record, length and slot; a refusal is an `Err` with its number and name, changes
+//! no buffer, and keeps the state (but [`Refusal::Inner`], which marks its number). A [`Controller`] has
+//! the same calls for up to sixteen channels in one table.
 //!
 //! ```text
 //! let offered = receiver.offer(record, husk::CURRENT)?;
@@ -18,12 +19,14 @@ extern crate std;
 
 #[allow(missing_docs)]
 mod calls;
+mod controller;
 pub mod raw;
 mod receiver;
 mod refusal;
 mod sender;
 pub mod wrapping;
 
+pub use controller::Controller;
 pub use raw::Setting;
 pub use receiver::{Offered, Receiver};
 pub use refusal::Refusal;
@@ -43,3 +46,5 @@ pub const HEADER: usize = 8;
 pub const MAC: usize = 16;
 /// How many numbers a receive window remembers.
 pub const WIDTH: u64 = 64;
+/// How many rows a controller's table has.
+pub const ROWS: usize = 16;

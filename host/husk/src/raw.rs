@@ -1,6 +1,7 @@
 //! The boundary itself: the structs as they lie in memory, and its calls by value, with the answer's
 //! number as it is. A state may hold any value; a call on one that no call returned answers 1, State.
-//! [`crate::Sender`] and [`crate::Receiver`] keep the state and turn numbers into results.
+//! [`crate::Sender`] and [`crate::Receiver`] keep the state and turn numbers into results. A [`Table`] is
+//! changed in place; [`crate::Controller`] does the same for it.
 #![allow(missing_docs)]
 
 pub use crate::calls::{body_of, read_data, read_message, record_of, view, wrap_data, wrap_record};
@@ -124,4 +125,37 @@ pub struct Data {
     pub answer: u8,
     pub integrity: bool,
     pub kind: u8,
+}
+
+/// The words of sixteen rows; a free row is all zeros.
+#[repr(C)]
+#[derive(Clone, Copy, Debug, Default, PartialEq, Eq)]
+pub struct Table {
+    pub rows: [[u64; 20]; 16],
+}
+
+#[repr(C)]
+#[derive(Clone, Copy, Debug, Default, PartialEq, Eq)]
+pub struct Opened {
+    pub answer: u8,
+    pub row: u8,
+}
+
+#[repr(C)]
+#[derive(Clone, Copy, Debug, Default, PartialEq, Eq)]
+pub struct Taken {
+    pub answer: u8,
+    pub place: u64,
+    pub length: u64,
+}
+
+#[repr(C)]
+#[derive(Clone, Copy, Debug, Default, PartialEq, Eq)]
+pub struct Sent {
+    pub answer: u8,
+    pub number: u64,
+    pub nonce: [u8; 12],
+    pub assoc: u64,
+    pub text: u64,
+    pub total: u64,
 }

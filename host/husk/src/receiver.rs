@@ -24,6 +24,18 @@ pub struct Offered {
     pub text: usize,
 }
 
+impl Offered {
+    pub(crate) fn of(offered: raw::Offered) -> Result<Offered, Refusal> {
+        Refusal::answer(offered.answer).map(|()| Offered {
+            count: offered.count,
+            number: offered.number,
+            nonce: offered.nonce,
+            assoc: offered.assoc as usize,
+            text: offered.text as usize,
+        })
+    }
+}
+
 impl Receiver {
     /// A new channel.
     pub fn open(setting: Setting, iv: [u8; 12]) -> Result<Receiver, Refusal> {
@@ -39,14 +51,7 @@ impl Receiver {
 
     /// What the cipher is to check. It changes nothing.
     pub fn offer(&self, rec: &[u8], slot: u8) -> Result<Offered, Refusal> {
-        let offered = self.state.offer(rec, slot);
-        Refusal::answer(offered.answer).map(|()| Offered {
-            count: offered.count,
-            number: offered.number,
-            nonce: offered.nonce,
-            assoc: offered.assoc as usize,
-            text: offered.text as usize,
-        })
+        Offered::of(self.state.offer(rec, slot))
     }
 
     /// What the cipher said of an offered record: with a yes its number is marked, and its data is

@@ -1,4 +1,4 @@
-//! The refusals, by page 01's numbers and names.
+//! The refusals, by page 01's numbers and names, and the table's three.
 use core::fmt;
 
 /// Why a call was refused.
@@ -47,9 +47,15 @@ pub enum Refusal {
     Wrapped = 20,
     /// Not a message with a record.
     Frame = 21,
+    /// An open row has that Session ID.
+    Twice = 22,
+    /// No row is free.
+    Rows = 23,
+    /// No open row has that Session ID or that number.
+    Unknown = 24,
 }
 
-const ALL: [Refusal; 21] = [
+const ALL: [Refusal; 24] = [
     Refusal::State,
     Refusal::Setting,
     Refusal::Key,
@@ -71,10 +77,13 @@ const ALL: [Refusal; 21] = [
     Refusal::Epochs,
     Refusal::Wrapped,
     Refusal::Frame,
+    Refusal::Twice,
+    Refusal::Rows,
+    Refusal::Unknown,
 ];
 
 impl Refusal {
-    /// Page 01's number.
+    /// Its number.
     pub fn number(self) -> u8 {
         self as u8
     }

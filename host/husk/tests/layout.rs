@@ -30,4 +30,12 @@ fn each_struct_lies_as_the_header_says() {
     lies!(Settled, 120, answer at 0, place at 8, length at 16, next at 24);
     lies!(Wrote, 16, answer at 0, length at 8);
     lies!(Data, 3, answer at 0, integrity at 1, kind at 2);
+    lies!(Table, 2560, rows at 0);
+    lies!(Opened, 2, answer at 0, row at 1);
+    lies!(Taken, 24, answer at 0, place at 8, length at 16);
+    lies!(Sent, 56, answer at 0, number at 8, nonce at 16, assoc at 32, text at 40, total at 48);
+    let table = Table::default();
+    let start = addr_of!(table) as usize;
+    assert_eq!(addr_of!(table.rows[1]) as usize - start, 160);
+    assert_eq!(addr_of!(table.rows[15][19]) as usize - start, 2552);
 }

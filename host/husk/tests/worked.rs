@@ -63,8 +63,8 @@ fn the_wrapping_splits_its_byte() {
 
 #[test]
 fn every_number_has_its_name() {
-    for number in 1..=21 {
+    for number in 1..=24 {
         assert_eq!(Refusal::of(number).unwrap().number(), number);
     }
-    assert_eq!((Refusal::of(0), Refusal::of(22)), (None, None));
+    assert_eq!((Refusal::of(0), Refusal::of(25)), (None, None));
 }

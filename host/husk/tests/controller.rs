@@ -1,0 +1,104 @@
+//! The controller's table through the safe face.
+use husk::{raw, Controller, Refusal, Sender, Setting, CURRENT, OLD};
+
+fn setting(mode: u8, session: u32) -> Setting {
+    Setting { mode, session, limit: u64::MAX }
+}
+
+/// A record of a board whose send key has this IV, with its MAC left as zeros.
+fn record(board: &mut Sender, app: &[u8]) -> Vec<u8> {
+    let mut out = [0; 64];
+    let built = board.build(app, &[], &mut out).unwrap();
+    out[..built.total].to_vec()
+}
+
+#[test]
+fn a_record_finds_its_row_and_goes_through_once() {
+    for mode in [0, 1] {
+        let mut controller = Controller::new();
+        assert_eq!(controller.open(setting(1 - mode, 6), [1; 12], [2; 12]), Ok(0));
+        assert_eq!(controller.open(setting(mode, 7), [3; 12], [4; 12]), Ok(1));
+        let mut board = Sender::open(setting(mode, 7), [3; 12]).unwrap();
+        let rec = record(&mut board, b"\xA0\xA1\xA2");
+        let offered = controller.offer(&rec, CURRENT).unwrap();
+        assert_eq!((offered.count, offered.number, offered.nonce), (0, 0, [3; 12]));
+        let plain = &rec[offered.assoc..offered.text];
+        let no = controller.settle(&rec, CURRENT, offered.count, offered.number, false, plain);
+        assert_eq!(no, Err(Refusal::Mac));
+        let other = controller.state().rows[0];
+        let data = controller.settle(&rec, CURRENT, offered.count, offered.number, true, plain);
+        assert_eq!(data, Ok(&b"\xA0\xA1\xA2"[..]));
+        assert_eq!(controller.offer(&rec, CURRENT), Err(Refusal::Repeat));
+        assert_eq!(controller.gaps(1, CURRENT), Ok(0));
+        assert_eq!(controller.state().rows[0], other);
+    }
+}
+
+#[test]
+fn the_length_of_the_text_says_the_mode() {
+    let mut controller = Controller::new();
+    controller.open(setting(0, 0), [1; 12], [2; 12]).unwrap();
+    controller.open(setting(1, 1), [3; 12], [4; 12]).unwrap();
+    let clear = record(&mut Sender::open(setting(0, 0), [1; 12]).unwrap(), b"ab");
+    let sealed = record(&mut Sender::open(setting(1, 1), [3; 12]).unwrap(), b"");
+    assert_eq!(controller.settle(&clear, CURRENT, 0, 0, true, b"ab"), Err(Refusal::Plain));
+    assert_eq!(controller.settle(&sealed, CURRENT, 0, 0, true, b""), Err(Refusal::Plain));
+    assert_eq!(controller.settle(&clear, CURRENT, 0, 0, true, b""), Ok(&b"ab"[..]));
+    assert_eq!(controller.settle(&sealed, CURRENT, 0, 0, true, b"\x00\x00"), Ok(&b""[..]));
+}
+
+#[test]
+fn rows_are_taken_and_freed_lowest_first() {
+    let mut controller = Controller::default();
+    for row in 0..husk::ROWS as u8 {
+        assert_eq!(controller.open(setting(1, u32::from(row)), [row; 12], [!row; 12]), Ok(row));
+    }
+    let full = controller.clone();
+    assert_eq!(controller.open(setting(2, 99), [0; 12], [0; 12]), Err(Refusal::Setting));
+    assert_eq!(controller.open(setting(1, 15), [0; 12], [0; 12]), Err(Refusal::Twice));
+    assert_eq!(controller.open(setting(1, 99), [0; 12], [0; 12]), Err(Refusal::Rows));
+    assert_eq!(controller.close(16), Err(Refusal::Unknown));
+    assert_eq!(controller, full);
+    controller.close(9).unwrap();
+    controller.close(3).unwrap();
+    assert_eq!(controller.close(3), Err(Refusal::Unknown));
+    assert_eq!(controller.open(setting(1, 99), [0; 12], [0; 12]), Ok(3));
+    assert_eq!(controller.open(setting(1, 98), [0; 12], [0; 12]), Ok(9));
+}
+
+#[test]
+fn calls_by_row_reach_that_row() {
+    let mut controller = Controller::new();
+    controller.open(setting(1, 5), [1; 12], [2; 12]).unwrap();
+    let mut out = [0; 64];
+    assert_eq!(controller.build(1, b"a", b"", &mut out), Err(Refusal::Unknown));
+    assert_eq!(out, [0; 64]);
+    let built = controller.build(0, b"a", b"", &mut out).unwrap();
+    assert_eq!((built.number, built.nonce, built.assoc, built.text, built.total), (0, [2; 12], 8, 11, 27));
+    assert_eq!(controller.drop_old(0), Err(Refusal::Key));
+    controller.change_receiver(0, [3; 12]).unwrap();
+    assert_eq!(controller.change_receiver(0, [4; 12]), Err(Refusal::Held));
+    assert_eq!(controller.gaps(0, OLD), Ok(0));
+    controller.drop_old(0).unwrap();
+    assert_eq!(controller.gaps(0, OLD), Err(Refusal::Key));
+    controller.change_sender(0, [5; 12]).unwrap();
+    assert_eq!(controller.build(0, b"a", b"", &mut out).unwrap().nonce, [5; 12]);
+    for refused in [controller.close(7), controller.drop_old(7), controller.change_sender(16, [0; 12])] {
+        assert_eq!(refused, Err(Refusal::Unknown));
+    }
+    assert_eq!(controller.offer(&[5, 0, 0], CURRENT), Err(Refusal::Short));
+    assert_eq!(controller.offer(&[6, 0, 0, 0, 0, 0, 0, 0], CURRENT), Err(Refusal::Unknown));
+}
+
+#[test]
+fn a_table_with_one_session_twice_is_refused_whole() {
+    let mut controller = Controller::new();
+    controller.open(setting(1, 5), [1; 12], [2; 12]).unwrap();
+    let mut table: raw::Table = controller.state();
+    table.rows[9] = table.rows[0];
+    let mut twice = Controller::from_state(table);
+    assert_eq!(twice.close(9), Err(Refusal::State));
+    assert_eq!(twice.open(setting(1, 6), [0; 12], [0; 12]), Err(Refusal::State));
+    assert_eq!(twice.offer(&[], 0), Err(Refusal::State));
+    assert_eq!(twice.state(), table);
+}
