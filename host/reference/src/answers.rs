@@ -1,4 +1,5 @@
-//! What Build, Offer and Settle answer. On a refusal all but `answer` is zero.
+//! What Build, Offer and Settle answer, and a table's Open. On a refusal all
+//! but `answer` is zero.
 
 use crate::refusal::Refusal;
 use crate::setting::Nonce;
@@ -48,6 +49,15 @@ pub struct Settled {
     pub length: u64,
 }
 
+/// The answer of a table's Open.
+#[derive(Clone, Copy, Debug, Default, PartialEq, Eq)]
+pub struct Opened {
+    /// 0, or the number of the refusal.
+    pub answer: u8,
+    /// The row that was taken.
+    pub row: u8,
+}
+
 impl From<Refusal> for Built {
     fn from(refusal: Refusal) -> Self {
         Built {
@@ -71,6 +81,15 @@ impl From<Refusal> for Settled {
         Settled {
             answer: refusal.number(),
             ..Settled::default()
+        }
+    }
+}
+
+impl From<Refusal> for Opened {
+    fn from(refusal: Refusal) -> Self {
+        Opened {
+            answer: refusal.number(),
+            ..Opened::default()
         }
     }
 }

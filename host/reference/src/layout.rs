@@ -1,4 +1,5 @@
-//! The fixed lengths of page 01, as constants of the type they belong to.
+//! The fixed lengths of page 01 and of the table, as constants of the type
+//! they belong to.
 
 /// Lengths of a record on the wire.
 #[derive(Clone, Copy, Debug)]
@@ -35,4 +36,13 @@ impl Mctp {
     pub const INTEGRITY: u8 = 0x80;
     /// The highest type that seven bits hold.
     pub const HIGHEST_TYPE: u8 = 127;
+}
+
+/// Size of a table of channels.
+#[derive(Clone, Copy, Debug)]
+pub struct Table;
+
+impl Table {
+    /// How many rows a table has, free ones too.
+    pub const ROWS: usize = 16;
 }

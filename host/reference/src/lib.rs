@@ -7,6 +7,9 @@
 //!   under every key, and works out all else from those sets.
 //! * [`fast`]: the quick one, with a 64-bit window word per key.
 //!
+//! [`table`] holds sixteen channels of the plain one by Session ID, and
+//! [`fast::Table`] delivers to sixteen of the quick one.
+//!
 //! [`version`] gives both (and any third program) one shape, [`random`] makes
 //! states, records and calls, and [`compare`] runs two versions side by side.
 
@@ -20,10 +23,12 @@ pub mod random;
 pub mod raw;
 pub mod refusal;
 pub mod setting;
+pub mod table;
 pub mod version;
 
-pub use answers::{Built, Offered, Settled};
+pub use answers::{Built, Offered, Opened, Settled};
 pub use kind::Kind;
-pub use raw::{RawKey, RawReceiver, RawSender};
+pub use raw::{RawKey, RawReceiver, RawRow, RawSender, RawTable};
 pub use refusal::Refusal;
 pub use setting::{Iv, Nonce, Setting};
+pub use table::Table;

@@ -1,5 +1,6 @@
 //! The states as plain fields, good or bad, in the form they are compared in.
 
+use crate::layout;
 use crate::setting::{Iv, Setting};
 
 /// A sender's state.
@@ -40,3 +41,15 @@ pub struct RawReceiver {
     /// The old key, slot 1; all zero when none is held.
     pub old: RawKey,
 }
+
+/// One row of a table; free when all of it is zero.
+#[derive(Clone, Copy, Debug, Default, PartialEq, Eq, Hash)]
+pub struct RawRow {
+    /// The row's receiver, whose Session ID is the row's.
+    pub receiver: RawReceiver,
+    /// The row's sender.
+    pub sender: RawSender,
+}
+
+/// A whole table.
+pub type RawTable = [RawRow; layout::Table::ROWS];

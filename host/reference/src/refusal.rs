@@ -1,6 +1,7 @@
 //! The numbers of refusal.
 
-/// Why a call was refused, with page 01's number for it.
+/// Why a call was refused, with its number: 1 to 21 are page 01's, the rest
+/// the table's.
 #[derive(Clone, Copy, Debug, PartialEq, Eq, Hash, PartialOrd, Ord)]
 #[repr(u8)]
 pub enum Refusal {
@@ -46,10 +47,16 @@ pub enum Refusal {
     Wrapped = 20,
     /// Not a secured MCTP message.
     Frame = 21,
+    /// The Session ID is in an open row already.
+    Twice = 22,
+    /// No row is free.
+    Rows = 23,
+    /// No open row has that Session ID, or the row is free or beyond the last.
+    Unknown = 24,
 }
 
 impl Refusal {
-    /// Every refusal, in the order of the numbers.
+    /// Every refusal of page 01, in the order of the numbers.
     pub const ALL: [Refusal; 21] = [
         Refusal::State,
         Refusal::Setting,
@@ -74,6 +81,9 @@ impl Refusal {
         Refusal::Frame,
     ];
 
+    /// The refusals that only a table of channels adds.
+    pub const TABLE: [Refusal; 3] = [Refusal::Twice, Refusal::Rows, Refusal::Unknown];
+
     /// The number that a call answers.
     #[must_use]
     pub const fn number(self) -> u8 {
@@ -83,7 +93,8 @@ impl Refusal {
     /// The refusal with this number, if there is one.
     #[must_use]
     pub fn from_number(number: u8) -> Option<Refusal> {
-        Refusal::ALL.into_iter().find(|r| r.number() == number)
+        let mut all = Refusal::ALL.into_iter().chain(Refusal::TABLE);
+        all.find(|r| r.number() == number)
     }
 
     /// Refuses for this reason when `wrong` holds, so that checks read as a list.

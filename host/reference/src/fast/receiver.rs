@@ -68,6 +68,12 @@ impl Receiver {
         }
     }
 
+    /// The channel's setting.
+    #[inline]
+    pub(super) fn setting(&self) -> &Setting {
+        &self.setting
+    }
+
     /// The gap count of a key.
     #[inline]
     #[must_use]

@@ -62,6 +62,12 @@ impl Sender {
         }
     }
 
+    /// The channel's setting.
+    #[inline]
+    pub(super) fn setting(&self) -> &Setting {
+        &self.setting
+    }
+
     /// Writes all of a record but the MAC and spends its number.
     #[inline]
     pub fn build(&mut self, app: &[u8], random: &[u8], out: &mut [u8]) -> Built {

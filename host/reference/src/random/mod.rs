@@ -12,6 +12,7 @@ mod records;
 mod rng;
 mod senders;
 mod states;
+mod tables;
 
 pub use bad::{any_receiver, any_sender, any_setting};
 pub use calls::{receiver_call, settle_call, ReceiverCall};
@@ -22,3 +23,4 @@ pub use records::{any_record, damage, plain_for, record, sound_record};
 pub use rng::Rng;
 pub use senders::{sender_call, SenderCall};
 pub use states::{good_key, good_receiver, good_sender, good_setting};
+pub use tables::any_table;
