@@ -1,5 +1,7 @@
 //! The proved record layer in the shape that the reference compares: every answer field by field, every
 //! state and every byte of the buffers.
+pub mod table;
+
 use husk::raw;
 use reference::version::{ReceiverCalls, SenderCalls, Version};
 use reference::{Built, Iv, Nonce, Offered, RawKey, RawReceiver, RawSender, Setting, Settled};

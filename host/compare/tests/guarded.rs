@@ -1,7 +1,9 @@
 //! No call reads or writes a byte beyond its slices: each buffer ends right before, or begins right behind,
 //! a page that may not be touched, so a stray access ends the test.
+use compare::table::words;
 use compare::Husk;
-use reference::random::{any_receiver, any_sender, receiver_call, sender_call, ReceiverCall, Rng, SenderCall};
+use husk::raw;
+use reference::random::{any_receiver, any_sender, any_table, receiver_call, sender_call, ReceiverCall, Rng, SenderCall};
 use reference::version::{ReceiverCalls, SenderCalls, Version};
 use std::ffi::c_void;
 
@@ -69,5 +71,45 @@ fn no_call_strays_from_its_slices() {
             Husk::wrap_record(app, out);
             Husk::wrap_data(true, 5, random, out);
         }
+    }
+}
+
+/// A table whose words end, or begin, at a shut page.
+fn lent<'a>(room: &'a mut Guarded, table: &raw::Table, at_end: bool) -> &'a mut raw::Table {
+    let bytes: Vec<u8> = table.rows.iter().flatten().flat_map(|word| word.to_ne_bytes()).collect();
+    let held = room.hold(&bytes, at_end);
+    assert_eq!(held.as_ptr().align_offset(std::mem::align_of::<raw::Table>()), 0);
+    // SAFETY: as many bytes as a table has, aligned, and any words are a table.
+    unsafe { &mut *held.as_mut_ptr().cast::<raw::Table>() }
+}
+
+#[test]
+fn no_call_strays_from_its_table() {
+    let mut rng = Rng::new(0x9a9e);
+    let (mut first, mut second, mut third) = (Guarded::new(3 * PAGE), Guarded::new(3 * PAGE), Guarded::new(3 * PAGE));
+    let mut room = Guarded::new(PAGE);
+    for round in 0..4_000 {
+        let at_end = round % 2 == 0;
+        let state = any_table(&mut rng);
+        let row = rng.below(18) as u8;
+        let table = lent(&mut room, &words(&state), at_end);
+        let ends = state.get(usize::from(row)).copied().unwrap_or_default();
+        if let ReceiverCall::Settle { rec, slot, count, number, passed, plain } = receiver_call(&mut rng, &ends.receiver) {
+            let rec = first.hold(&rec, at_end);
+            let plain = second.hold(&plain, at_end);
+            table.offer(rec, slot);
+            let taken = table.settle(rec, slot, count, number, u8::from(passed), plain);
+            raw::view(u8::from(!plain.is_empty()), taken.place, taken.length, rec, plain);
+        }
+        if let SenderCall::Build { app, random, out } = sender_call(&mut rng, &ends.sender) {
+            let (app, random, out) = (first.hold(&app, at_end), second.hold(&random, at_end), third.hold(&out, at_end));
+            table.build(row, app, random, out);
+        }
+        table.gaps(row, 0);
+        table.change_receiver(row, rng.iv());
+        table.change_sender(row, rng.iv());
+        table.drop_old(row);
+        table.open(raw::Setting { mode: 1, session: rng.word() as u32, limit: 9 }, rng.iv(), rng.iv());
+        table.close(row);
     }
 }
