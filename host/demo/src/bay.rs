@@ -1,5 +1,5 @@
 //! The bay: boards, bridge, bus and controller, tick by tick.
-use crate::{Board, Bridge, Bus, Controller, Element, Plan, Rng, Secret, KT1, PLANS};
+use crate::{Board, Bridge, Bus, Controller, Plan, Rng, Secret, KT1, PLANS};
 use husk::{Refusal, Setting};
 
 /// The ticks of a period.
@@ -8,6 +8,8 @@ pub const PERIOD: u32 = 40;
 pub const PERIODS: u32 = 3;
 
 const SEED: u64 = 16;
+/// The seed of the other direction, from the controller to the boards, where the story sends nothing.
+const BACK_SEED: u64 = 17;
 
 /// A board's place in the bay.
 struct Place {
@@ -31,27 +33,40 @@ impl Bay {
     /// # Errors
     /// A call was refused.
     pub fn new() -> Result<Bay, Refusal> {
-        let mut rng = Rng::new(SEED);
-        let mut places = Vec::new();
-        let mut elements = Vec::new();
-        for plan in PLANS {
-            let (place, element) = meet(plan, &mut rng)?;
-            places.push(place);
-            elements.push(element);
-        }
         let mut bay = Bay {
-            places,
+            places: Vec::new(),
             bridge: Bridge::default(),
-            controller: Controller::new(elements),
-            rng,
+            controller: Controller::new(),
+            rng: Rng::new(SEED),
             tick: 0,
         };
+        let mut back = Rng::new(BACK_SEED);
+        for plan in PLANS {
+            bay.meet(plan, &Secret::agree(&mut back))?;
+        }
         for (element, plan) in PLANS.iter().enumerate() {
             for _ in 0..plan.before {
                 bay.step(element)?;
             }
         }
         Ok(bay)
+    }
+
+    /// A board and its row at the controller, which have a Session ID, keys and IVs of their own.
+    fn meet(&mut self, plan: Plan, back: &Secret) -> Result<(), Refusal> {
+        let setting = Setting {
+            mode: plan.mode,
+            session: u32::from_le_bytes(self.rng.bytes()),
+            limit: u64::MAX,
+        };
+        let secret = Secret::agree(&mut self.rng);
+        self.places.push(Place {
+            plan,
+            board: Board::new(setting, &secret, self.rng.split())?,
+            bus: Bus::new(plan.fate),
+        });
+        self.controller.open(setting, &secret, back)?;
+        Ok(())
     }
 
     /// Runs for one period.
@@ -79,10 +94,10 @@ impl Bay {
             if self.tick == change {
                 let secret = Secret::agree(&mut self.rng);
                 place.board.change_key(&secret)?;
-                self.controller.element(element).change_key(&secret)?;
+                self.controller.change_key(element, &secret)?;
             }
             if self.tick == change + KT1 {
-                self.controller.element(element).drop_old()?;
+                self.controller.drop_old(element)?;
             }
         }
         Ok(())
@@ -94,7 +109,7 @@ impl Bay {
         let message = place.board.send()?;
         if let Some(message) = self.bridge.pass(element, message) {
             for arrived in place.bus.carry(message) {
-                self.controller.deliver(element, &arrived);
+                self.controller.deliver(&arrived);
             }
         }
         Ok(())
@@ -109,20 +124,4 @@ impl Bay {
     pub fn controller(&self) -> &Controller {
         &self.controller
     }
-}
-
-/// A board and the controller's end, which have a Session ID, a key and an IV of their own.
-fn meet(plan: Plan, rng: &mut Rng) -> Result<(Place, Element), Refusal> {
-    let setting = Setting {
-        mode: plan.mode,
-        session: u32::from_le_bytes(rng.bytes()),
-        limit: u64::MAX,
-    };
-    let secret = Secret::agree(rng);
-    let place = Place {
-        plan,
-        board: Board::new(setting, &secret, rng.split())?,
-        bus: Bus::new(plan.fate),
-    };
-    Ok((place, Element::new(setting, &secret)?))
 }

@@ -1,8 +1,7 @@
-//! The controller's end of one element's channel.
+//! What the controller has for one element beside its row of the table.
 use crate::{Reading, Secret};
 use cipher::Aead;
-use husk::wrapping::read_message;
-use husk::{Receiver, Refusal, Setting, CURRENT, OLD};
+use husk::{Controller as Table, Refusal, CURRENT, OLD};
 
 /// What became of an element's deliveries.
 #[derive(Clone, Copy, Debug, Default, PartialEq, Eq)]
@@ -15,11 +14,11 @@ pub struct Tally {
     pub others: u64,
 }
 
-/// The receiving end of a channel, with the keys for the cipher. Each key stands beside the slot that the
-/// receiver has for it, and changes with it.
+/// An element: its row in the table, and the keys for the cipher. Each key stands beside the slot that the
+/// row has for it, and changes with it.
 pub struct Element {
     session: u32,
-    receiver: Receiver,
+    row: u8,
     current: Aead,
     old: Option<Aead>,
     tally: Tally,
@@ -28,25 +27,22 @@ pub struct Element {
 }
 
 impl Element {
-    /// An element with the setting and the secret that its board has too. It is dark.
-    ///
-    /// # Errors
-    /// [`Refusal::Setting`].
-    pub fn new(setting: Setting, secret: &Secret) -> Result<Element, Refusal> {
-        Ok(Element {
-            session: setting.session,
-            receiver: Receiver::open(setting, secret.iv())?,
+    /// The element of a row that was opened with this Session ID and this secret. It is dark.
+    pub(crate) fn new(session: u32, row: u8, secret: &Secret) -> Element {
+        Element {
+            session,
+            row,
             current: secret.aead(),
             old: None,
             tally: Tally::default(),
             lit: false,
             reading: None,
-        })
+        }
     }
 
-    /// Takes a message and counts what became of it. Only a record handed out lights the element.
-    pub fn deliver(&mut self, message: &[u8]) {
-        match self.read(message) {
+    /// Takes a record and counts what became of it. Only a record handed out lights the element.
+    pub(crate) fn deliver(&mut self, table: &mut Table, record: &[u8]) {
+        match self.read(table, record) {
             Ok(reading) => {
                 self.tally.handed += 1;
                 self.lit = true;
@@ -57,13 +53,12 @@ impl Element {
         }
     }
 
-    /// Reads a message under the current key and, where that may not be the record's key, under the old
+    /// Reads a record under the current key and, where that may not be the record's key, under the old
     /// one. A record does not say its key, and number 3 of the old key is no repeat of number 3 of the new.
-    fn read(&mut self, message: &[u8]) -> Result<Option<Reading>, Refusal> {
-        let record = read_message(message)?;
-        match self.settle(record, CURRENT) {
+    fn read(&mut self, table: &mut Table, record: &[u8]) -> Result<Option<Reading>, Refusal> {
+        match self.settle(table, record, CURRENT) {
             Err(refusal) if self.old.is_some() && depends_on_key(refusal) => {
-                let old = self.settle(record, OLD);
+                let old = self.settle(table, record, OLD);
                 // The cipher's no says that the record is not of the current key, so the old one's answer
                 // counts. Where the current key knew the number, its answer does.
                 old.map_err(|second| match refusal {
@@ -76,9 +71,15 @@ impl Element {
     }
 
     /// Offer, the cipher, Settle: the cipher runs on exactly what Offer answered, and Settle is given the
-    /// very same record, slot, key count and number, and the cipher's own answer and text.
-    fn settle(&mut self, record: &[u8], slot: u8) -> Result<Option<Reading>, Refusal> {
-        let offered = self.receiver.offer(record, slot)?;
+    /// very same record, slot, key count and number, and the cipher's own answer and text. The table finds
+    /// the row itself, by the record's Session ID.
+    fn settle(
+        &mut self,
+        table: &mut Table,
+        record: &[u8],
+        slot: u8,
+    ) -> Result<Option<Reading>, Refusal> {
+        let offered = table.offer(record, slot)?;
         let aead = match slot {
             OLD => self.old.as_mut().ok_or(Refusal::Key)?,
             _ => &mut self.current,
@@ -89,9 +90,7 @@ impl Element {
         let mut plain = text.to_vec();
         let yes = aead.open(&offered.nonce, assoc, &mut plain, mac);
         let (count, number) = (offered.count, offered.number);
-        let app = self
-            .receiver
-            .settle(record, slot, count, number, yes, &plain)?;
+        let app = table.settle(record, slot, count, number, yes, &plain)?;
         Reading::read(app)
     }
 
@@ -99,8 +98,8 @@ impl Element {
     ///
     /// # Errors
     /// [`Refusal::Held`], where the old key was not dropped; [`Refusal::Epochs`].
-    pub fn change_key(&mut self, secret: &Secret) -> Result<(), Refusal> {
-        self.receiver.change_key(secret.iv())?;
+    pub(crate) fn change_key(&mut self, table: &mut Table, secret: &Secret) -> Result<(), Refusal> {
+        table.change_receiver(self.row, secret.iv())?;
         self.old = Some(std::mem::replace(&mut self.current, secret.aead()));
         Ok(())
     }
@@ -109,20 +108,25 @@ impl Element {
     ///
     /// # Errors
     /// [`Refusal::Key`], where there is none.
-    pub fn drop_old(&mut self) -> Result<(), Refusal> {
-        self.receiver.drop_old()?;
+    pub(crate) fn drop_old(&mut self, table: &mut Table) -> Result<(), Refusal> {
+        table.drop_old(self.row)?;
         self.old = None;
         Ok(())
     }
 
     /// Whether a record was handed out since the last call. It is dark again after it.
-    pub fn poll(&mut self) -> bool {
+    pub(crate) fn poll(&mut self) -> bool {
         std::mem::take(&mut self.lit)
     }
 
     /// Its Session ID.
     pub fn session(&self) -> u32 {
         self.session
+    }
+
+    /// Its row in the controller's table.
+    pub fn row(&self) -> u8 {
+        self.row
     }
 
     /// The counts since the start.
@@ -138,11 +142,6 @@ impl Element {
     /// The reading that was handed out last.
     pub fn reading(&self) -> Option<Reading> {
         self.reading
-    }
-
-    /// The receiver.
-    pub fn receiver(&self) -> &Receiver {
-        &self.receiver
     }
 }
 

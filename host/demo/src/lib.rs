@@ -5,8 +5,8 @@
 //! its numbers, one changes its key while records of the old one are late, one is fed forged records,
 //! and some have a bus that loses and reorders.
 //!
-//! [`Board`], [`Bridge`] and [`Bus`] are the simulated side. [`Element`] and [`Controller`] are what a
-//! bay controller would have: the receiver and the cipher between its two calls.
+//! [`Board`], [`Bridge`] and [`Bus`] are the simulated side. [`Controller`] and [`Element`] are what a
+//! bay controller would have: one table with a row for each board, and the cipher between its two calls.
 #![deny(missing_docs)]
 #![forbid(unsafe_code)]
 

@@ -1,6 +1,6 @@
 //! The docking sheet.
 use crate::{Controller, Element, Tally};
-use husk::{Refusal, CURRENT};
+use husk::Refusal;
 use std::fmt;
 
 /// One element's row.
@@ -17,11 +17,11 @@ pub struct Row {
 }
 
 impl Row {
-    fn of(element: &Element) -> Result<Row, Refusal> {
+    fn of(controller: &Controller, element: &Element) -> Result<Row, Refusal> {
         Ok(Row {
             session: element.session(),
             tally: element.tally(),
-            gaps: element.receiver().gaps(CURRENT)?,
+            gaps: controller.gaps(element)?,
             lit: element.is_lit(),
         })
     }
@@ -37,9 +37,12 @@ impl Sheet {
     /// The sheet as the controller stands.
     ///
     /// # Errors
-    /// None: the current key is always there.
+    /// None: the current key of an open row is always there.
     pub fn of(controller: &Controller) -> Result<Sheet, Refusal> {
-        let rows: Result<_, _> = controller.elements().iter().map(Row::of).collect();
+        let elements = controller.elements().iter();
+        let rows: Result<_, _> = elements
+            .map(|element| Row::of(controller, element))
+            .collect();
         Ok(Sheet { rows: rows? })
     }
 

@@ -1,11 +1,15 @@
 //! One element: two keys at once, and what is forged or not for it.
-use demo::{Board, Element, Reading, Rng, Secret, Tally};
-use husk::{Refusal, Setting};
+use demo::{Board, Controller, Element, Reading, Rng, Secret, Tally};
+use husk::wrapping::read_message;
+use husk::{Refusal, Setting, CURRENT, HEADER};
 
-/// Both ends of a channel, and the keys that they are yet to agree on.
+/// The Session ID behind the message's type byte: it says whose a message is.
+const SESSION: std::ops::Range<usize> = 1..5;
+
+/// A board, a controller with a row for it and no other, and the keys that they are yet to agree on.
 struct Pair {
     board: Board,
-    element: Element,
+    controller: Controller,
     rng: Rng,
 }
 
@@ -17,12 +21,18 @@ impl Pair {
             session: 0x1122_3344,
             limit: u64::MAX,
         };
-        let secret = Secret::agree(&mut rng);
+        let [secret, back] = [Secret::agree(&mut rng), Secret::agree(&mut rng)];
+        let mut controller = Controller::new();
+        assert_eq!(controller.open(setting, &secret, &back), Ok(0));
         Pair {
             board: Board::new(setting, &secret, rng.split()).unwrap(),
-            element: Element::new(setting, &secret).unwrap(),
+            controller,
             rng,
         }
+    }
+
+    fn element(&self) -> &Element {
+        &self.controller.elements()[0]
     }
 
     /// The next message, with the reading in it.
@@ -34,18 +44,18 @@ impl Pair {
     fn change_key(&mut self) {
         let secret = Secret::agree(&mut self.rng);
         self.board.change_key(&secret).unwrap();
-        self.element.change_key(&secret).unwrap();
+        self.controller.change_key(0, &secret).unwrap();
     }
 
     /// Delivers, and holds the counts to be these.
     fn deliver(&mut self, message: &[u8], handed: u64, repeats: u64, others: u64) {
-        self.element.deliver(message);
+        self.controller.deliver(message);
         let tally = Tally {
             handed,
             repeats,
             others,
         };
-        assert_eq!(self.element.tally(), tally);
+        assert_eq!(self.element().tally(), tally);
     }
 }
 
@@ -56,20 +66,20 @@ fn late_records_of_the_old_key_are_its_own() {
     pair.change_key();
     let (new_zero, third) = pair.send();
     pair.deliver(&new_zero, 1, 0, 0);
-    assert_eq!(pair.element.reading(), Some(third));
+    assert_eq!(pair.element().reading(), Some(third));
     // Number 0 is marked under the new key, number 1 is not. Both are new to the old key.
     pair.deliver(&zero, 2, 0, 0);
-    assert_eq!(pair.element.reading(), Some(first));
+    assert_eq!(pair.element().reading(), Some(first));
     pair.deliver(&one, 3, 0, 0);
-    assert_eq!(pair.element.reading(), Some(second));
+    assert_eq!(pair.element().reading(), Some(second));
     // None of the three is handed out twice.
     pair.deliver(&zero, 3, 1, 0);
     pair.deliver(&one, 3, 2, 0);
     pair.deliver(&new_zero, 3, 3, 0);
     // Dropped, the old key answers no more: number 1 is ahead of the new key, and the cipher says no.
-    pair.element.drop_old().unwrap();
+    pair.controller.drop_old(0).unwrap();
     pair.deliver(&one, 3, 3, 1);
-    assert_eq!(pair.element.drop_old(), Err(Refusal::Key));
+    assert_eq!(pair.controller.drop_old(0), Err(Refusal::Key));
 }
 
 #[test]
@@ -79,7 +89,7 @@ fn a_refused_key_change_changes_nothing() {
     pair.change_key();
     let (fresh, _) = pair.send();
     let unused = Secret::agree(&mut pair.rng);
-    assert_eq!(pair.element.change_key(&unused), Err(Refusal::Held));
+    assert_eq!(pair.controller.change_key(0, &unused), Err(Refusal::Held));
     pair.deliver(&late, 1, 0, 0);
     pair.deliver(&fresh, 2, 0, 0);
 }
@@ -88,17 +98,37 @@ fn a_refused_key_change_changes_nothing() {
 fn no_forged_record_blocks_the_true_one() {
     let mut pair = Pair::new();
     let (message, _) = pair.send();
+    // The type byte and the Session ID say whose a message is, so these copies are no element's.
+    let (mut strays, mut others) = (0, 0);
+    let mut forge = |pair: &mut Pair, forged: &[u8], stray: bool| {
+        strays += u64::from(stray);
+        others += u64::from(!stray);
+        pair.deliver(forged, 0, 0, others);
+        assert_eq!(pair.controller.strays(), strays);
+    };
     for place in 0..message.len() {
         let mut forged = message.clone();
         forged[place] ^= 0x10;
-        pair.deliver(&forged, 0, 0, place as u64 + 1);
+        forge(&mut pair, &forged, place < SESSION.end);
     }
     for cut in 0..message.len() {
-        pair.deliver(&message[..cut], 0, 0, (message.len() + cut) as u64 + 1);
+        forge(&mut pair, &message[..cut], cut < 1 + HEADER);
     }
-    assert!(!pair.element.is_lit());
-    let forged = 2 * message.len() as u64;
-    pair.deliver(&message, 1, 0, forged);
-    pair.deliver(&message, 1, 1, forged);
-    assert_eq!((pair.element.poll(), pair.element.poll()), (true, false));
+    assert!(!pair.element().is_lit());
+    pair.deliver(&message, 1, 0, others);
+    pair.deliver(&message, 1, 1, others);
+    assert_eq!((pair.controller.poll(), pair.controller.poll()), (1, 0));
+}
+
+#[test]
+fn a_record_of_no_row_is_unknown() {
+    let mut pair = Pair::new();
+    let (mut message, _) = pair.send();
+    message[SESSION].fill(0);
+    let record = read_message(&message).unwrap();
+    let table = pair.controller.table().clone();
+    assert_eq!(table.offer(record, CURRENT), Err(Refusal::Unknown));
+    pair.deliver(&message, 0, 0, 0);
+    assert_eq!(pair.controller.strays(), 1);
+    assert_eq!(pair.controller.table(), &table);
 }

@@ -1,6 +1,6 @@
 //! The story, period by period, and each part of it for its own reason.
-use demo::{Bay, Board, Element, Rng, Row, Secret, Sheet, Tally, ELEMENTS, PERIODS, PLANS};
-use husk::Setting;
+use demo::{Bay, Board, Controller, Rng, Row, Secret, Sheet, Tally, ELEMENTS, PERIODS, PLANS};
+use husk::{Offered, Refusal, Setting, CURRENT, OLD};
 
 fn hung() -> Vec<usize> {
     (0..ELEMENTS)
@@ -45,14 +45,32 @@ fn the_nine_go_dark_and_no_other() {
     the_key_is_changed(&bay, last);
     forged_records_are_counted(last);
     every_session_is_its_own(last);
+    every_row_is_its_own(bay.controller());
     assert_eq!((bay.poll(), bay.poll()), (7, 0));
+}
+
+/// What the table offers of a record of this element and number, which was not sent.
+fn probe(bay: &Bay, element: usize, number: u64) -> Result<Offered, Refusal> {
+    const LENGTH: usize = 32;
+    let session = bay.controller().elements()[element].session();
+    let mut record = session.to_le_bytes().to_vec();
+    record.extend(&number.to_le_bytes()[..2]);
+    record.extend((LENGTH as u16).to_le_bytes());
+    record.extend([0; LENGTH]);
+    bay.controller().table().offer(&record, CURRENT)
+}
+
+/// Number `next - 1` was handed out and number `next` was not, under the key with this count.
+fn next_is(bay: &Bay, element: usize, count: u32, next: u64) {
+    assert_eq!(probe(bay, element, next - 1), Err(Refusal::Repeat));
+    let offered = probe(bay, element, next).unwrap();
+    assert_eq!((offered.count, offered.number), (count, next));
 }
 
 /// Element 3: of 65,480 records every 50th arrived; of the 120 after them 7 are lost, and the last one is
 /// late when the story ends. Four of the lost ones are still in the window.
 fn the_turn_is_passed(bay: &Bay, rows: &[Row]) {
-    let state = bay.controller().elements()[3].receiver().state();
-    assert_eq!(state.current.window.next, 65_599);
+    next_is(bay, 3, 0, 65_599);
     let tally = Tally {
         handed: 1_310 + 120 - 7 - 1,
         ..Tally::default()
@@ -65,9 +83,13 @@ fn the_turn_is_passed(bay: &Bay, rows: &[Row]) {
 
 /// Element 6: two late records of the old key are handed out under it, the third comes after the drop.
 fn the_key_is_changed(bay: &Bay, rows: &[Row]) {
-    let state = bay.controller().elements()[6].receiver().state();
-    assert_eq!((state.count, state.held), (1, false));
-    assert_eq!(state.current.window.next, 120 - 30);
+    next_is(bay, 6, 1, 120 - 30);
+    let row = bay.controller().elements()[6].row();
+    assert_eq!(
+        bay.controller().table().gaps(row, OLD),
+        Err(Refusal::Key),
+        "it is dropped"
+    );
     let tally = Tally {
         handed: 119,
         repeats: 0,
@@ -93,22 +115,31 @@ fn every_session_is_its_own(rows: &[Row]) {
     assert_eq!(sessions.len(), ELEMENTS);
 }
 
+/// Sixteen rows, each element's its own, and no message that was for none of them.
+fn every_row_is_its_own(controller: &Controller) {
+    let rows = controller.elements().iter().map(|element| element.row());
+    assert!(rows.eq(0..husk::ROWS as u8));
+    assert_eq!(controller.strays(), 0);
+}
+
 #[test]
 fn what_is_handed_out_is_what_was_measured() {
     let mut rng = Rng::new(1);
+    let mut controller = Controller::new();
     for mode in [husk::AUTHENTICATED, husk::ENCRYPTED] {
         let setting = Setting {
             mode,
-            session: 0x1122_3344,
+            session: 0x1122_3344 + u32::from(mode),
             limit: 50,
         };
-        let secret = Secret::agree(&mut rng);
+        let [secret, back] = [Secret::agree(&mut rng), Secret::agree(&mut rng)];
         let mut board = Board::new(setting, &secret, rng.split()).unwrap();
-        let mut element = Element::new(setting, &secret).unwrap();
+        let place = controller.open(setting, &secret, &back).unwrap();
         for sent in 1..=setting.limit {
             let message = board.send().unwrap().unwrap();
-            element.deliver(&message);
-            element.deliver(&message);
+            controller.deliver(&message);
+            controller.deliver(&message);
+            let element = &controller.elements()[place];
             assert_eq!(element.reading(), Some(board.reading()));
             assert_eq!(
                 (element.tally().handed, element.tally().repeats),
