@@ -6,6 +6,7 @@ mod receive;
 mod records;
 #[cfg(mbedtls)]
 mod replay;
+mod table;
 
 use race::race;
 use records::{in_order, one_in_ten, Set};
@@ -42,6 +43,15 @@ fn reading_beside() {
     race("offer+settle 64B vs 65000B", FEW, || receive::ours(&short), || receive::ours(&long));
 }
 
+/// Reading in a full table, against one channel and against the quick reference.
+fn reading_table() {
+    let (set, one) = (Set::in_turn(1, 64, RECORDS), Set::new(1, 64, &in_order(RECORDS)));
+    let (ours, fast) = (table::full(1), table::full_fast(1));
+    let name = "table offer+settle 64B in order, 16 rows";
+    race(&format!("{name} / one channel"), RECORDS, || table::ours(&ours, &set), || receive::ours(&one));
+    race(&format!("{name} / Rust"), RECORDS, || table::ours(&ours, &set), || table::fast(&fast, &set));
+}
+
 /// Building, against the quick reference.
 fn building() {
     for len in [64, 4096] {
@@ -70,9 +80,10 @@ fn main() {
     if emulated() {
         println!("emulated: figures of time say nothing here, ratios little");
     }
-    println!("{:<52} {:>9} {:>9} {:>7}", "name", "ours-ns", "peer-ns", "ratio");
+    println!("{:<54} {:>9} {:>9} {:>7}", "name", "ours-ns", "peer-ns", "ratio");
     reading();
     reading_beside();
+    reading_table();
     building();
     replay();
 }

@@ -17,7 +17,7 @@ pub fn race(name: &str, calls: usize, mut ours: impl FnMut() -> usize, mut peer:
         our_best = our_best.min(time(our_passes, &mut ours) / (our_passes * calls) as f64);
         peer_best = peer_best.min(time(peer_passes, &mut peer) / (peer_passes * calls) as f64);
     }
-    println!("{name:<52} {our_best:>9.2} {peer_best:>9.2} {:>7.3}", our_best / peer_best);
+    println!("{name:<54} {our_best:>9.2} {peer_best:>9.2} {:>7.3}", our_best / peer_best);
 }
 
 /// How many passes take the least time of a round.

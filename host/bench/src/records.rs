@@ -1,11 +1,16 @@
 //! Records made before the clock runs, one behind the other in the order of their delivery.
 use husk::raw::Sender;
-use husk::{Setting, HEADER, MAC};
+use husk::{Setting, HEADER, MAC, ROWS};
 
 pub const IV: [u8; 12] = [0, 1, 2, 3, 4, 5, 6, 7, 8, 9, 10, 11];
 
 pub fn setting(mode: u8) -> Setting {
     Setting { mode, session: 0x1122_3344, limit: u64::MAX }
+}
+
+/// The setting of a table's row: each has a Session ID of its own.
+pub fn row_setting(mode: u8, row: usize) -> Setting {
+    Setting { session: 0x1122_3344 + row as u32 * 0x0101_0101, ..setting(mode) }
 }
 
 /// The application data of a record of `len` bytes that has no random bytes.
@@ -24,13 +29,24 @@ pub struct Set {
 }
 
 impl Set {
-    /// The records of these numbers, not encrypted and with a MAC of zeros.
+    /// One channel's records of these numbers, not encrypted and with a MAC of zeros.
     pub fn new(mode: u8, len: usize, numbers: &[u64]) -> Set {
+        let senders = numbers.iter().map(|&number| (setting(mode), number));
+        Set::of(mode, len, &senders.collect::<Vec<_>>())
+    }
+
+    /// So many records of a full table: the rows take turns, and each row's numbers are in order.
+    pub fn in_turn(mode: u8, len: usize, count: usize) -> Set {
+        let senders = (0..count).map(|place| (row_setting(mode, place % ROWS), (place / ROWS) as u64));
+        Set::of(mode, len, &senders.collect::<Vec<_>>())
+    }
+
+    fn of(mode: u8, len: usize, senders: &[(Setting, u64)]) -> Set {
         let app = app(mode, len);
-        let mut bytes = vec![0u8; len * numbers.len()];
+        let mut bytes = vec![0u8; len * senders.len()];
         let mut plain = Vec::new();
-        for (rec, &number) in bytes.chunks_exact_mut(len).zip(numbers) {
-            let sender = Sender { next: number, ..Sender::open(setting(mode), IV).next };
+        for (rec, &(setting, number)) in bytes.chunks_exact_mut(len).zip(senders) {
+            let sender = Sender { next: number, ..Sender::open(setting, IV).next };
             let built = sender.build(&app, &[], rec);
             assert_eq!((built.answer, built.total), (0, len as u64), "a record of {len} bytes is built");
             plain = rec[built.assoc as usize..built.text as usize].to_vec();
