@@ -5,8 +5,6 @@ use Rattle.rows.proofs.row.Row.receiver.Reads as receiver
 use Rattle.rows.proofs.row.Row.sender.Reads as sender
 use Rattle.rows.proofs.row.Row.with_receiver.Reads as with-receiver
 use Rattle.rows.proofs.row.Row.with_sender.Reads as with-sender
-use Rattle.rows.proofs.row.Row.id.Reads as id
-use Rattle.rows.proofs.row.Row.is_split.Reads as is-split
 use Rattle.rows.proofs.row.Row.is_free.Reads as is-free
 
 pub receiver-one : OneAnswer receiver.Post (λ κs x s. x)
@@ -21,12 +19,6 @@ with-receiver-one κs a x y s t p q i = record { words = one (p .0) (q .0) i }
 
 pub with-sender-one : OneAnswer with-sender.Post (λ κs x s. x)
 with-sender-one κs a x y s t p q i = record { words = one (p .0) (q .0) i }
-
-pub id-one : OneAnswer id.Post (λ κs x s. x)
-id-one κs a x y s t p q = one p q
-
-pub is-split-one : OneAnswer is-split.Post (λ κs x s. x)
-is-split-one κs a x y s t p q = one p q
 
 pub is-free-one : OneAnswer is-free.Post (λ κs x s. x)
 is-free-one κs a x y s t p q = one p q

@@ -4,7 +4,7 @@ use crate::part;
 use channel::Receiver;
 use channel::Sender;
 ghost use mathlib.Core.Path.{_≡_};
-ghost use Rattle.rows.specs.Ends.{receiverOf, senderOf, endsOf, isFree, isSplit, idOf, withReceiver, withSender, putReceiver, putSender};
+ghost use Rattle.rows.specs.Ends.{receiverOf, senderOf, endsOf, isFree, withReceiver, withSender, putReceiver, putSender};
 
 // Thirteen words of the receiver, then seven of the sender, a word for each number.
 pub struct Row {
@@ -119,22 +119,6 @@ impl Row {
                 v[1],
             ],
         }
-    }
-
-    // Its Session ID.
-    pub fn id(self) -> u32
-        ensures { λ r. ⌜ r ≡ idOf (endsOf (self .words)) ⌝ }
-    {
-        let w = self.words;
-        part::count_of(w[1])
-    }
-
-    // Whether its two ends have different Session IDs.
-    pub fn is_split(self) -> bool
-        ensures { λ r. ⌜ r ≡ isSplit (endsOf (self .words)) ⌝ }
-    {
-        let w = self.words;
-        part::count_of(w[1]) != part::count_of(w[14])
     }
 
     // Whether it is all zeros. A row in use has a limit, so one look mostly tells.
