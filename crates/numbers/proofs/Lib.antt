@@ -6,6 +6,7 @@ pub mod Marking
 pub mod Gaps
 pub mod Memory
 pub mod Nearest
+pub mod Step
 pub mod Calls
 pub mod Laws
 pub mod Told

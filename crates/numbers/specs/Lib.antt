@@ -1,4 +1,5 @@
 pub mod Number
+pub mod Step
 pub mod Word
 pub mod Window
 pub mod Contract

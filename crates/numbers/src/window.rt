@@ -61,11 +61,8 @@ impl Window {
     // Numbers with the same low 16 bits are this far apart.
     const TURN: u64 = 65536;
 
-    // The number meant lies less than this above next, and at most this below it.
-    const HALF: u64 = 32768;
-
-    // The first number of the last turn below 2^64.
-    const LAST: u64 = 18446744073709486080;
+    // The last number of 64 bits.
+    const LAST: u64 = 18446744073709551615;
 
     pub fn empty() -> Window
         ensures { λ r. ⌜ r ≡ emptyWindow ⌝ }
@@ -114,26 +111,27 @@ impl Window {
         (next <= limit) & within & ((next == 0) | top)
     }
 
-    // The number of a record with these low 16 bits, or why it is refused.
+    // The number of a record with these low 16 bits, or why it is refused. RFC 9147, 4.2.2: of the
+    // numbers on either side of next with these bits the nearer; on a tie the lower, and never a
+    // negative one.
     pub fn place(self, rule: Rule, low: u16) -> Placed
         ensures { λ r. ⌜ r ≡ placed rule self low ⌝ }
     {
         let next = self.next;
-        let low = low as u64;
-        let at = next % Window::TURN;
-        let base = next - at;
-        if low + Window::HALF < at {
-            if Window::LAST <= base {
-                return Placed::refused(Refusal::SPENT);
-            }
-            return self.judge(rule, base + Window::TURN + low);
-        }
-        if at + Window::HALF <= low {
-            if Window::TURN <= base {
-                return self.judge(rule, base - Window::TURN + low);
+        let up = (low as u64 + Window::TURN - next % Window::TURN) % Window::TURN;
+        let down = Window::TURN - up;
+        if down <= up {
+            let negative = next < down;
+            if !negative {
+                let below = next - down;
+                return self.judge(rule, below);
             }
         }
-        self.judge(rule, base + low)
+        if Window::LAST - next < up {
+            return Placed::refused(Refusal::SPENT);
+        }
+        let above = next + up;
+        self.judge(rule, above)
     }
 
     // What becomes of a record with the number n.
