@@ -8,26 +8,18 @@ use lib.Dec.{ltb}
 use lib.ListN.{length, List·getD-eq-default}
 use borrow.Author.Tests.{not-true, ltb-true, ltb-false}
 use Rattle.answers.proofs.Tests.{true-not-false}
-use Rattle.octets.specs.Fields.{blank}
-use Rattle.numbers.specs.Contract.{windowOf, isEmpty}
-use Rattle.numbers.specs.Word.{wordOf, marksOf}
 use Rattle.record.specs.Setting.{isZeroSetting, badSetting}
 use Rattle.record.proofs.Zeros.{zeros-bad, zero-setting}
 use Rattle.channel.specs.Receiver.{isZeroReceiver}
-use Rattle.channel.specs.Sender.{isZeroSender}
-use Rattle.channel.specs.Key.{isZeroKey}
 use Rattle.rows.specs.Ends.{Ends, freeEnds, isFree}
+use Rattle.rows.proofs.Laws.{free-told}
 use Rattle.controller.specs.Table.{rowAt}
 use Rattle.bay.specs.Reasons.{Open}
 use Rattle.bay.specs.TableRun.{emptyTable}
 
-pub free-free : isFree freeEnds ≡ true
-unfolding isFree isZeroReceiver isZeroSender isZeroKey isZeroSetting isEmpty blank windowOf wordOf marksOf
-free-free = refl
-
 -- beyond the last row all is free
 pub beyond-free : (t : List Ends) (i : ℕ) → length t ≤ i → isFree (rowAt t i) ≡ true
-beyond-free t i h = ap isFree (List·getD-eq-default t freeEnds h) ∙ free-free
+beyond-free t i h = ap isFree (List·getD-eq-default t freeEnds h) ∙ free-told
 
 -- so an open row is in the table
 pub open-there : (t : List Ends) (i : ℕ) → isFree (rowAt t i) ≡ false → i < length t
@@ -47,7 +39,7 @@ set-open e g = go (isZeroSetting (e .receiver .setting)) refl
     go false z = rw z
 
 pub not-open-free : Open freeEnds → ⊥
-not-open-free o = true-not-false free-free (not-true _ o)
+not-open-free o = true-not-false free-told (not-true _ o)
 
 -- every row of an empty table is free
 pub empty-free : (n i : ℕ) → rowAt (emptyTable n) i ≡ freeEnds

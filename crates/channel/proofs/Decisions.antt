@@ -12,11 +12,11 @@ use Rattle.answers.proofs.Tests.{tells-false, tells-true, tells-lt, tells-eq, t
 use Rattle.answers.proofs.Given.{why-is}
 use Rattle.numbers.proofs.Told.{number-told, unsound-told}
 use Rattle.record.specs.declared.setting.Setting.{Setting}
-use Rattle.record.specs.Setting.{badSetting, ruleOf, openRows}
+use Rattle.record.specs.Setting.{ruleOf, openRows}
 use Rattle.record.specs.Read.{recordRows, placeRows}
 use Rattle.record.specs.Write.{formRows}
 use Rattle.record.specs.Reasons.{openReasons, recordReasons, formReasons}
-use Rattle.record.proofs.Told.{open-told, record-told, form-told, room-told, inner-told}
+use Rattle.record.proofs.Told.{bad-setting, open-told, record-told, form-told, room-told, inner-told}
 use Rattle.channel.specs.declared.receiver.Receiver.{Receiver}
 use Rattle.channel.specs.declared.receiver.ReceiverStep.{ReceiverStep}
 use Rattle.channel.specs.declared.sender.Sender.{Sender}
@@ -32,10 +32,6 @@ use Rattle.channel.proofs.Outcome.{code-of}
 use Rattle.channel.proofs.Zeros.{TypedKey, zero-key}
 
 -- ---- State
-
-bad-setting : (s : Setting) → Tells (badSetting s) ((1 < s .mode) ⊎ (s .limit ≡ 0))
-unfolding badSetting
-bad-setting s = tells-or (tells-lt _ _) (tells-eq _ _)
 
 pub bad-receiver : (r : Receiver) → TypedKey (r .old) → Tells (badReceiver r) (BadReceiver r)
 unfolding badReceiver

@@ -2,12 +2,13 @@
 -- Assumes nothing.
 use Rattle.channel.specs.Receiver.{answerTo, stateAfter}
 use Rattle.octets.specs.Parts.{part}
+use Rattle.record.specs.Setting.{sameSetting}
 use Rattle.record.specs.View.{viewOf}
 use Rattle.promises.specs.Run.{handedBy}
 use Rattle.promises.specs.World.{sentOf, at, next, handedIn, callsOf}
 use Rattle.promises.specs.Toy.{keyOf, weigh, tag, masked, eqList, toy, front, wire, forged}
 use Rattle.promises.proofs.Computing.{computing}
-use Rattle.promises.proofs.Toy.{sameSetting, sameAnswer, isSent, isIn, readyTest, sealTest, callTest, runTest}
+use Rattle.promises.proofs.Toy.{sameAnswer, isSent, isIn, readyTest, sealTest, callTest, runTest}
 
 -- the view, what is handed out, and the world
 unfoldable pub worldOpen : Unit {0}

@@ -15,7 +15,7 @@ use Rattle.octets.specs.Fields.{field, blank}
 use Rattle.record.specs.Header.{sessionOf, partialOf, lengthOf, numberOf, headOf}
 use Rattle.record.specs.Nonce.{nonceOf, spread}
 use Rattle.record.specs.Read.{recordRows, placeRows}
-use Rattle.record.specs.Setting.{authOnly, badSetting, openRows, windowWidth}
+use Rattle.record.specs.Setting.{numberFirst, authOnly, badSetting, openRows, windowWidth}
 use Rattle.record.specs.Shape.{headLen, macLen, innerLen, mostLength, least, totalOf, startOf, textEnd, assocEnd, plainLen, dataPlace, dataLen, innerBad}
 use Rattle.record.specs.Write.{bodyLen, assocEndFor, formRows, roomRows, bodyOf, frontOf}
 use Rattle.promises.specs.Run.{afterBy, answersBy, markedBy, allMarked}
@@ -34,7 +34,7 @@ windowsOpen = tt
 
 -- settings, and the checks of a record
 unfoldable pub readingOpen : Unit {0}
-unfolding field blank sessionOf partialOf lengthOf numberOf recordRows placeRows authOnly badSetting openRows windowWidth headLen macLen innerLen least totalOf
+unfolding field blank sessionOf partialOf lengthOf numberOf recordRows placeRows authOnly numberFirst badSetting openRows windowWidth headLen macLen innerLen least totalOf
 readingOpen = tt
 
 -- the parts of a record, read and written

@@ -14,6 +14,8 @@ use Rattle.numbers.specs.Memory.{Below}
 use Rattle.octets.proofs.Endian.{field-at}
 use Rattle.octets.specs.Fields.{field, little}
 use Rattle.record.specs.declared.setting.Setting.{Setting}
+use Rattle.record.specs.Setting.{sameSetting}
+use Rattle.record.proofs.Zeros.{same-setting}
 use Rattle.promises.specs.World.{Step, build, turn, seal, receive, Sent, World, next, Each, assocOf, countsOf, SealedBefore, Honest, HonestCall}
 use Rattle.promises.specs.Toy.{keyOf, eqList, toy}
 
@@ -45,9 +47,6 @@ pub keys-differ : (a b : ℕ) → a < 2 ^ 32 → b < 2 ^ 32 → keyOf a ≡ keyO
 keys-differ a b p q e = sym (key-field a p) ∙ ap (λ (k : List ℕ). field k 0 4) e ∙ key-field b q
 
 -- ---- what T4 assumes of a run with this cipher, as a test
-
-unfoldable pub sameSetting : Setting → Setting → Bool
-sameSetting a b = eqb (a .mode) (b .mode) && (eqb (a .session) (b .session) && eqb (a .limit) (b .limit))
 
 unfoldable pub sameAnswer : Bool → Bool → Bool
 sameAnswer a b = cond a b (not b)
@@ -88,15 +87,9 @@ runTest s w (receive c ∷ rest) = callTest s w c && runTest s (next w (receive 
 
 -- ---- a run that passes the test meets the assumptions
 
-same-setting : (a b : Setting) → T (sameSetting a b) → a ≡ b
-unfolding sameSetting
-same-setting a b h =
-    let p = both-true (eqb (a .mode) (b .mode)) _ h in
-    let q = both-true (eqb (a .session) (b .session)) _ (p .1) in
-    let m = eqb→eq (a .mode) (b .mode) (p .0) in
-    let n = eqb→eq (a .session) (b .session) (q .0) in
-    let l = eqb→eq (a .limit) (b .limit) (q .1) in
-    λ i. record { mode = m i; session = n i; limit = l i }
+T-is : (b : Bool) → T b → b ≡ true
+T-is true h = refl
+T-is false h = absurd h
 
 same-answer : (a b : Bool) → T (sameAnswer a b) → a ≡ b
 unfolding sameAnswer
@@ -160,13 +153,13 @@ settle-met s w r slot count number passed plain h =
     let q = both-true (sameSetting (w .sender .setting) s) _ (p .0) in
     let u = both-true (sameSetting (w .receiver .setting) s) _ (q .1) in
     let v = both-true (sameAnswer passed says) _ (p .1) in
-    let there = same-setting (w .receiver .setting) s (u .0) in
+    let there = same-setting (w .receiver .setting) s .holds (T-is _ (u .0)) in
     let most = leb→le (countsOf w) 4294967295 (u .1) in
     let on : says ≡ true → T (eqList plain text) × T (isIn count number (assocOf s r) text (w .sealed)) =
     λ e. both-true (eqList plain text) _ (on-yes says _ (v .1) e) in
     let own = same-answer passed says (v .0) in
     record {
-      alike = (same-setting (w .sender .setting) s (q .0) ∙ sym there, λ c l. refl);
+      alike = (same-setting (w .sender .setting) s .holds (T-is _ (q .0)) ∙ sym there, λ c l. refl);
       no-reuse = λ a b l m e. keys-differ a b (omega arith) (omega arith) e;
       own = (own, λ e. same-list plain text (on (sym own ∙ e) .0));
       genuine = λ e.

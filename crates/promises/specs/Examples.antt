@@ -11,6 +11,7 @@ use Rattle.channel.specs.Receiver.{openReceiver}
 use Rattle.channel.specs.Sender.{buildOf, buildOut}
 use Rattle.channel.specs.declared.sender.Sender.{Sender}
 use Rattle.record.specs.declared.setting.Setting.{Setting}
+use Rattle.record.specs.Setting.{pageSetting}
 use Rattle.promises.specs.Run.{answersOf, Item}
 use Rattle.promises.specs.World.{Step, build, turn, seal, receive, Sent, World, sentOf, start, Each, handedIn, callsOf, HonestCall}
 use Rattle.promises.specs.Toy.{keyOf, toy, wire, forged}
@@ -18,7 +19,7 @@ use Rattle.promises.specs.Toy.{keyOf, toy, wire, forged}
 -- ---- both ends, in mode m
 
 unfoldable pub setTo : ℕ → Setting
-setTo m = record { mode = m; session = 0x11223344; limit = 1000 }
+setTo m = pageSetting m 0x11223344 1000
 
 unfoldable pub iv : List ℕ
 iv = 0 ∷ 1 ∷ 2 ∷ 3 ∷ 4 ∷ 5 ∷ 6 ∷ 7 ∷ 8 ∷ 9 ∷ 10 ∷ 11 ∷ []
@@ -79,7 +80,7 @@ pub record LateRecord (m : ℕ) : Type 0 where
 -- ---- Repeat is not for ever
 
 unfoldable pub far : Setting
-far = record { mode = 0; session = 0x11223344; limit = 100000 }
+far = pageSetting 0 0x11223344 100000
 
 -- a record with no data, and these two bytes of its number
 unfoldable pub bare : ℕ → ℕ → List ℕ

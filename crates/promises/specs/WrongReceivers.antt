@@ -14,13 +14,14 @@ use Rattle.channel.specs.declared.receiver.Receiver.{Receiver}
 use Rattle.numbers.specs.Contract.{windowOf}
 use Rattle.numbers.specs.Word.{setBit, wordOf}
 use Rattle.record.specs.declared.setting.Setting.{Setting}
+use Rattle.record.specs.Setting.{pageSetting}
 use Rattle.promises.specs.Ways.{Receives}
 
 -- ---- the runs: from the open of this setting with this IV
 
 -- mode 0
 abbrev pub set : Setting
-set = record { mode = 0; session = 0x11223344; limit = 1000 }
+set = pageSetting 0 0x11223344 1000
 
 -- any will do
 abbrev pub iv : List ℕ

@@ -1,16 +1,19 @@
 -- Nonces: twelve bytes, and under one IV another for each number.
 -- Assumes nothing.
 use Prim.Native.Nat.{ℕ, zero, suc, _+_, _^_, _<_}
+use mathlib.Core.Bool.{Bool, true, false, cond}
 use mathlib.Core.List.{List}
 use mathlib.Core.Path.{_≡_, refl, sym, ap, _∙_}
 use native.Mathlib.Omega.{arith}
 use lib.Bits.{bitXor}
-use lib.ListN.{length, getD, take}
+use lib.ListN.{length, getD, take, drop}
 use lib.Seq.{ext-getD}
-use Rattle.octets.proofs.Endian.{little-one}
+use Rattle.answers.proofs.Tests.{by-cases}
+use Rattle.octets.proofs.Endian.{little-one, big-one}
 use Rattle.octets.proofs.Xor.{xor-cancel}
 use Rattle.record.specs.declared.setting.Setting.{Setting}
-use Rattle.record.specs.Nonce.{each, spread, nonceOf}
+use Rattle.record.specs.Setting.{numberFirst}
+use Rattle.record.specs.Nonce.{each, spreadFirst, spreadLast, spread, nonceOf}
 
 -- ---- XOR with one IV
 
@@ -43,15 +46,19 @@ masked-one iv a b k la lb e =
 
 -- ---- the number's bytes
 
--- a number is spread over twelve bytes
+-- a number is spread over twelve bytes, in either layout
 pub spread-length : (s : Setting) (n : ℕ) → length (spread s n) ≡ 12
 unfolding spread
-spread-length s n = refl
+spread-length s n = by-cases (λ (l : List ℕ). length l ≡ 12) (numberFirst s) (spreadFirst n) (spreadLast n) (λ h. refl) (λ h. refl)
 
--- numbers that are spread alike are one
+-- numbers that are spread alike are one, in either layout
 pub spread-one : (s : Setting) (a b : ℕ) → a < 2 ^ 64 → b < 2 ^ 64 → spread s a ≡ spread s b → a ≡ b
 unfolding spread
-spread-one s a b p q e = little-one 8 a b p q (ap (take 8) e)
+spread-one s a b p q = go (numberFirst s)
+  where
+    go : (first : Bool) → cond first (spreadFirst a) (spreadLast a) ≡ cond first (spreadFirst b) (spreadLast b) → a ≡ b
+    go true e = little-one 8 a b p q (ap (take 8) e)
+    go false e = big-one 8 a b p q (ap (drop 4) e)
 
 -- ---- nonces
 

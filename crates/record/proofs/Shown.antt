@@ -5,11 +5,10 @@ use mathlib.Core.Bool.{Bool, true, false}
 use mathlib.Core.List.{List, [], _++_, append-assoc}
 use mathlib.Core.Path.{_≡_, refl, sym, ap, _∙_}
 use native.Mathlib.Omega.{arith}
-use lib.Dec.{ltb, eqb}
+use lib.Dec.{eqb}
 use lib.ListN.{length, take, drop, length-append, take-append-drop}
 use lib.Seq.{take-at, drop-at, length-take-le}
-use borrow.Author.Tests.{ltb-false, eqb-false, le-leb, eq-eqb}
-use Rattle.answers.proofs.Tests.{or-neither}
+use borrow.Author.Tests.{eqb-false, le-leb, eq-eqb}
 use Rattle.octets.specs.Fields.{little}
 use Rattle.octets.specs.Parts.{part}
 use Rattle.octets.proofs.Endian.{field-at, little-length}
@@ -19,6 +18,7 @@ use Rattle.record.specs.Header.{headOf}
 use Rattle.record.specs.Shape.{headLen, macLen, innerLen, mostLength, startOf, textEnd, assocEnd, dataPlace, dataLen}
 use Rattle.record.specs.View.{viewOf}
 use Rattle.record.specs.Write.{lengthFor}
+use Rattle.record.proofs.Modes.{good-mode}
 use Rattle.record.proofs.Writes.{head-length}
 use Rattle.record.proofs.Fronts.{inner-holds, textFor, assocFor, clear-all, text-sealed}
 
@@ -50,10 +50,10 @@ view-clear s r plain head app a l e =
 pub view-sealed : (s : Setting) (r app random : List ℕ) → badSetting s ≡ false → authOnly s ≡ false
     → lengthFor s (length app) (length random) ≤ mostLength s
     → viewOf (s .mode) (dataPlace s r) (dataLen s r (textFor s app random)) r (textFor s app random) ≡ app
-unfolding viewOf dataPlace dataLen authOnly badSetting
+unfolding viewOf dataPlace dataLen authOnly
 view-sealed s r app random g a h =
     let k : ℕ = innerLen s in
-    let m : s .mode ≤ 1 = ltb-false _ _ (or-neither (ltb 1 (s .mode)) _ g .0) in
+    let m : s .mode ≤ 1 = good-mode s g in
     let z : s .mode ≡ 0 → ⊥ = eqb-false _ _ a in
     let o : eqb (s .mode) 1 ≡ true = eq-eqb (s .mode) 1 (omega arith) in
     rw (a, o, text-sealed s app random a, field-at [] k (length app) (app ++ random) (inner-holds s (length app) (length random) a h))

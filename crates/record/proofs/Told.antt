@@ -15,12 +15,17 @@ use Rattle.record.specs.Header.{lengthOf}
 use Rattle.record.specs.Shape.{least, totalOf, innerBad}
 use Rattle.record.specs.Read.{recordRows}
 use Rattle.record.specs.Write.{formRows, roomRows}
-use Rattle.record.specs.Reasons.{TooSmall, TooLong, openReasons, recordReasons, formReasons, roomReasons}
+use Rattle.record.specs.Reasons.{BadSetting, TooSmall, TooLong, openReasons, recordReasons, formReasons, roomReasons}
+
+-- a setting that is none of a channel
+pub bad-setting : (s : Setting) → Tells (badSetting s) (BadSetting s)
+unfolding badSetting
+bad-setting s = tells-or (tells-or (tells-lt _ _) (tells-lt _ _)) (tells-eq _ _)
 
 -- 2: what Open refuses
 pub open-told : (s : Setting) → Told (openRows s) (openReasons s)
-unfolding openRows badSetting
-open-told s = (told-row (tells-or (tells-lt _ _) (tells-eq _ _)), tt)
+unfolding openRows
+open-told s = (told-row (bad-setting s), tt)
 
 -- a bound that depends on a test
 tells-cond : (b : Bool) {p : Type 0} (x m n : ℕ) → Tells b p → Tells (ltb x (cond b m n)) ((p × (x < m)) ⊎ ((p → ⊥) × (x < n)))

@@ -12,9 +12,9 @@ use Rattle.record.specs.Header.{sessionOf, lengthOf}
 use Rattle.record.specs.Shape.{headLen, macLen, innerLen, mostLength, plainLen, dataLen}
 use Rattle.record.specs.Write.{lengthFor, totalFor}
 
--- mode above 1, or L = 0
+-- mode above 1, layout above 1 (request g), or L = 0
 abbrev pub BadSetting : Setting → Type 0
-BadSetting s = (1 < s .mode) ⊎ (s .limit ≡ 0)
+BadSetting s = ((1 < s .mode) ⊎ (1 < s .layout)) ⊎ (s .limit ≡ 0)
 
 -- Length under the MAC's (mode 0), or under 2 more (mode 1)
 abbrev pub TooSmall : Setting → List ℕ → Type 0

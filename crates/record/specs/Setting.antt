@@ -11,19 +11,31 @@ use Rattle.numbers.specs.declared.window.Rule.{Rule}
 use Rattle.record.specs.declared.setting.Setting.{Setting}
 
 abbrev pub zeroSetting : Setting
-zeroSetting = record { mode = 0; session = 0; limit = 0 }
+zeroSetting = record { mode = 0; layout = 0; session = 0; limit = 0 }
+
+-- page 01's own: what the requests made variable is as it stands there
+abbrev pub pageSetting : ℕ → ℕ → ℕ → Setting
+pageSetting mode session limit = record { mode = mode; layout = 0; session = session; limit = limit }
+
+-- field by field
+unfoldable pub sameSetting : Setting → Setting → Bool
+sameSetting s t = eqb (s .mode) (t .mode) && eqb (s .layout) (t .layout) && eqb (s .session) (t .session) && eqb (s .limit) (t .limit)
 
 -- all its fields are zero
 unfoldable pub isZeroSetting : Setting → Bool
-isZeroSetting s = eqb (s .mode) 0 && eqb (s .session) 0 && eqb (s .limit) 0
+isZeroSetting s = sameSetting s zeroSetting
 
 -- mode 0: message authentication only
 unfoldable pub authOnly : Setting → Bool
 authOnly s = eqb (s .mode) 0
 
--- a mode above 1, or no usable number
+-- layout 0: the number is little-endian in the first bytes of a nonce
+unfoldable pub numberFirst : Setting → Bool
+numberFirst s = eqb (s .layout) 0
+
+-- a mode above 1, a layout above 1, or no usable number
 unfoldable pub badSetting : Setting → Bool
-badSetting s = ltb 1 (s .mode) || eqb (s .limit) 0
+badSetting s = ltb 1 (s .mode) || ltb 1 (s .layout) || eqb (s .limit) 0
 
 -- 2: what Open refuses
 unfoldable pub openRows : Setting → List Check

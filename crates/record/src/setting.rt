@@ -2,13 +2,15 @@
 use numbers::Rule;
 use numbers::Window;
 ghost use mathlib.Core.Path.{_≡_};
-ghost use Rattle.record.specs.Setting.{zeroSetting, authOnly, badSetting, ruleOf};
+ghost use Rattle.record.specs.Setting.{zeroSetting, authOnly, numberFirst, badSetting, ruleOf};
 
-// Mode 0 is message authentication only, mode 1 encryption and authentication. Usable numbers are
-// those below the limit.
+// Mode 0 is message authentication only, mode 1 encryption and authentication. Layout 0 has the
+// number in the first bytes of a nonce, layout 1 in the last. Usable numbers are those below the
+// limit.
 #[repr(C)]
 pub struct Setting {
     pub mode: u8,
+    pub layout: u8,
     pub session: u32,
     pub limit: u64,
 }
@@ -19,6 +21,7 @@ impl Setting {
     {
         Setting {
             mode: 0,
+            layout: 0,
             session: 0,
             limit: 0,
         }
@@ -30,11 +33,18 @@ impl Setting {
         self.mode == 0
     }
 
+    // Whether the number is little-endian in the first bytes of a nonce.
+    pub fn number_first(self) -> bool
+        ensures { λ r. ⌜ r ≡ numberFirst self ⌝ }
+    {
+        self.layout == 0
+    }
+
     // Whether Open refuses it.
     pub fn is_bad(self) -> bool
         ensures { λ r. ⌜ r ≡ badSetting self ⌝ }
     {
-        (1 < self.mode) | (self.limit == 0)
+        (1 < self.mode) | (1 < self.layout) | (self.limit == 0)
     }
 
     // The rule of its keys.

@@ -10,7 +10,7 @@ use lib.ListN.{length, replicate, length-append, length-take, length-drop}
 use Rattle.octets.specs.Fields.{blank}
 use Rattle.numbers.specs.Word.{wordOf, marksOf}
 use Rattle.numbers.specs.Contract.{windowOf, isEmpty}
-use Rattle.record.specs.Setting.{isZeroSetting}
+use Rattle.record.specs.Setting.{sameSetting, isZeroSetting}
 use Rattle.channel.specs.declared.receiver.Receiver.{Receiver}
 use Rattle.channel.specs.declared.sender.Sender.{Sender}
 use Rattle.channel.specs.Key.{isZeroKey}
@@ -24,12 +24,12 @@ unfolding receiverOf senderOf ivOf
 zeros-free = refl
 
 pub free-told : isFree freeEnds ≡ true
-unfolding isFree isZeroReceiver isZeroSender isZeroSetting isZeroKey isEmpty windowOf wordOf marksOf blank
+unfolding isFree isZeroReceiver isZeroSender isZeroSetting sameSetting isZeroKey isEmpty windowOf wordOf marksOf blank
 free-told = refl
 
 -- a receiver with a limit is not all zeros
 pub limit-not-free : (e : Ends) → eqb (e .receiver .setting .limit) 0 ≡ false → isFree e ≡ false
-unfolding isFree isZeroReceiver isZeroSetting
+unfolding isFree isZeroReceiver isZeroSetting sameSetting
 limit-not-free e h = rw (h, and-false)
 
 -- ---- lengths

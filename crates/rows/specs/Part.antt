@@ -1,6 +1,6 @@
 -- The parts of an end and the words that they lie in. A word is cut to what its field holds: the bits above are padding.
 -- Assumes nothing.
-use Prim.Native.Nat.{ℕ, _%_}
+use Prim.Native.Nat.{ℕ, _+_, _*_, _/_, _%_}
 use mathlib.Core.Bool.{Bool, cond}
 use mathlib.Core.List.{List, [], _∷_, _++_}
 use lib.Dec.{eqb}
@@ -12,8 +12,14 @@ use Rattle.channel.specs.declared.key.Key.{Key}
 
 -- ---- read
 
+-- the mode and the layout are the first two bytes of one word
 abbrev pub settingOf : ℕ → ℕ → ℕ → Setting
-settingOf mode session limit = record { mode = mode % 256; session = session % 4294967296; limit = limit }
+settingOf head session limit = record {
+  mode = head % 256;
+  layout = head / 256 % 256;
+  session = session % 4294967296;
+  limit = limit;
+}
 
 abbrev pub countOf : ℕ → ℕ
 countOf count = count % 4294967296
@@ -31,7 +37,7 @@ heldOf held = eqb (held % 2) 1
 -- ---- written
 
 abbrev pub settingWords : Setting → List ℕ
-settingWords s = s .mode ∷ s .session ∷ s .limit ∷ []
+settingWords s = (s .mode + 256 * s .layout) ∷ s .session ∷ s .limit ∷ []
 
 abbrev pub ivWords : List ℕ → List ℕ
 ivWords iv = field iv 0 8 ∷ field iv 8 4 ∷ []

@@ -8,14 +8,19 @@ ghost use mathlib.Core.Path.{_≡_};
 ghost use lib.ListN.{getD};
 ghost use Rattle.rows.specs.Part.{settingOf, countOf, ivOf, keyOf, heldOf, settingWords, ivWords, keyWords, heldWord};
 
+// What a byte holds is below this.
+const BYTE: u64 = 256;
+
 // What half a word holds is below this.
 const HALF: u64 = 4294967296;
 
-pub(crate) fn setting_of(mode: u64, session: u64, limit: u64) -> Setting
-    ensures { λ r. ⌜ r ≡ settingOf mode session limit ⌝ }
+// The mode and the layout share a word.
+pub(crate) fn setting_of(head: u64, session: u64, limit: u64) -> Setting
+    ensures { λ r. ⌜ r ≡ settingOf head session limit ⌝ }
 {
     Setting {
-        mode: (mode % 256) as u8,
+        mode: (head % BYTE) as u8,
+        layout: (head / BYTE % BYTE) as u8,
         session: (session % HALF) as u32,
         limit: limit,
     }
@@ -55,7 +60,8 @@ pub(crate) fn key_of(head: u64, tail: u64, next: u64, marks: u64) -> Key
 pub(crate) fn setting_words(setting: Setting) -> [u64; 3]
     ensures { λ r. ⌜ (r ≡ settingWords setting) × (settingOf (getD r 0 0) (getD r 1 0) (getD r 2 0) ≡ setting) ⌝ }
 {
-    [setting.mode as u64, setting.session as u64, setting.limit]
+    let head = setting.mode as u64 + BYTE * (setting.layout as u64);
+    [head, setting.session as u64, setting.limit]
 }
 
 pub(crate) fn count_word(count: u32) -> u64

@@ -10,6 +10,7 @@ const SESSION: u32 = 0x11223344;
 pub(crate) fn setting(mode: u8) -> Setting {
     Setting {
         mode: mode,
+        layout: 0,
         session: SESSION,
         limit: 18446744073709551615,
     }
@@ -52,9 +53,23 @@ pub(crate) fn both_modes() {
 }
 
 pub(crate) fn nonce() {
+    nonce_in(b"nonce of 0x0102:", 0, 0x0102);
+    nonce_in(b"nonce of 0x0102, layout 1:", 1, 0x0102);
+    nonce_in(b"nonce of 0:", 0, 0);
+    nonce_in(b"nonce of 0, layout 1:", 1, 0);
+}
+
+fn nonce_in(name: &[u8], layout: u8, number: u64) {
     let iv = [0, 1, 2, 3, 4, 5, 6, 7, 8, 9, 10, 11];
-    let n = record::nonce(setting(0), iv, 0x0102);
-    print::text(b"nonce of 0x0102:");
+    let page = setting(0);
+    let chosen = Setting {
+        mode: page.mode,
+        layout: layout,
+        session: page.session,
+        limit: page.limit,
+    };
+    let n = record::nonce(chosen, iv, number);
+    print::text(name);
     print::bytes(&n);
     print::text(b"\n");
 }

@@ -1,5 +1,5 @@
-use Prim.Native.Nat.{_%_}
-use mathlib.Core.Path.{_≡_, refl}
+use Prim.Native.Nat.{ℕ, _+_, _*_, _/_, _%_}
+use mathlib.Core.Path.{_≡_, refl, ap, _∙_}
 use native.Mathlib.Omega.{arith}
 use borrow.Author.Needs.{needs}
 use Rattle.rows.proofs.part.setting_words.Statement.{statement}
@@ -7,10 +7,20 @@ use Rattle.rows.proofs.part.setting_words.Tie as tie
 
 returns : tie.Need-returns
 returns c =
-    let s = c .before .before .args .setting in
-    let mode : s .mode % 256 ≡ s .mode = omega arith in
+    let s = c .before .before .before .args .setting in
+    let mode : (s .mode + 256 * s .layout) % 256 ≡ s .mode = omega arith in
+    let above : (s .mode + 256 * s .layout) / 256 ≡ s .layout = omega arith in
+    let layout : (s .mode + 256 * s .layout) / 256 % 256 ≡ s .layout = ap (λ (x : ℕ). x % 256) above ∙ omega arith in
     let session : s .session % 4294967296 ≡ s .session = omega arith in
-    (refl, λ i. record { mode = mode i; session = session i; limit = s .limit })
+    (refl, λ i. record { mode = mode i; layout = layout i; session = session i; limit = s .limit })
 
 pub setting-words-spec : {M : Type 1} → statement M
-setting-words-spec = tie.close (tie.spec (λ c. search needs) (λ c. search needs) returns)
+setting-words-spec =
+    tie.close
+    (tie.spec
+    (λ c. search needs)
+    (λ c. search needs)
+    (λ c. search needs)
+    (λ c. search needs)
+    (λ c. search needs)
+    returns)
