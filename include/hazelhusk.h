@@ -1,4 +1,4 @@
-/* Hazelhusk 1.1: SPDM secured records over MCTP, for C.
+/* Hazelhusk 1.2: SPDM secured records over MCTP, for C.
  *
  * Link target/staticlib/libhusk.a. It needs nothing else: no heap, no C library, no global state.
  *
@@ -10,6 +10,8 @@
  * length 0 may be NULL.
  *
  * What you must do:
+ *   - Open both ends of a channel with the same setting, its layout included, and the same key and IV.
+ *     Between ends of different layouts nothing is promised: see HAZELHUSK_LAYOUT_LITTLE.
  *   - Keep the state that the last call left, and call with no other. A copy that is older repeats
  *     numbers. Give one state to one thread at a time.
  *   - Let no pointer of a call alias another: not the state, not the output buffer.
@@ -38,7 +40,7 @@ extern "C" {
 #endif
 
 /* It changes whenever a struct below does. */
-#define HAZELHUSK_VERSION 2
+#define HAZELHUSK_VERSION 3
 
 #define HAZELHUSK_HEADER_BYTES 8u  /* bytes of a record's header */
 #define HAZELHUSK_MAC_BYTES 16u   /* bytes of a record's MAC */
@@ -47,11 +49,17 @@ extern "C" {
 #define HAZELHUSK_SLOT_OLD 1u     /* the slot of the old one */
 #define HAZELHUSK_ROW_COUNT 16u   /* rows of a controller's table */
 
+/* How a record's number lies in the 12 bytes that are XORed with the IV and make its nonce: which of the
+ * two the board's maker chose. Number 0 has the same nonce in both, so between ends that differ record 0
+ * passes and the cipher refuses those after it. */
+#define HAZELHUSK_LAYOUT_LITTLE 0u  /* little-endian in the first 8, then zeros */
+#define HAZELHUSK_LAYOUT_BIG 1u     /* zeros, then big-endian in the last 8 */
+
 /* The refusals. */
 enum {
     HAZELHUSK_OK = 0,
     HAZELHUSK_STATE = 1,    /* the state is none that the calls return */
-    HAZELHUSK_SETTING = 2,  /* mode above 1, or a limit of 0 */
+    HAZELHUSK_SETTING = 2,  /* mode or layout above 1, or a limit of 0 */
     HAZELHUSK_KEY = 3,      /* no such slot, or no old key */
     HAZELHUSK_SHORT = 4,    /* the record is shorter than a header */
     HAZELHUSK_SESSION = 5,  /* another Session ID */
@@ -78,7 +86,9 @@ enum {
 
 /* ---- states and answers, as they lie in memory */
 
-typedef struct { uint8_t mode; uint32_t session; uint64_t limit; } hazelhusk_setting;
+/* A channel's setting, the same at both ends. Mode 0 authenticates, mode 1 encrypts too; `layout` is one
+ * of HAZELHUSK_LAYOUT_..; each key's numbers are those below `limit`. See hazelhusk_setting_of. */
+typedef struct { uint8_t mode, layout; uint32_t session; uint64_t limit; } hazelhusk_setting;
 typedef struct { uint8_t bytes[12]; } hazelhusk_iv;
 typedef struct { uint64_t word; } hazelhusk_marks;
 typedef struct { uint64_t next; hazelhusk_marks marks; } hazelhusk_window;
@@ -179,6 +189,14 @@ hazelhusk_counted husk_table_gaps(const hazelhusk_controller *table, uint8_t row
 uint8_t husk_table_change_receiver(hazelhusk_controller *table, uint8_t row, hazelhusk_iv iv);
 uint8_t husk_table_change_sender(hazelhusk_controller *table, uint8_t row, hazelhusk_iv iv);
 uint8_t husk_table_drop(hazelhusk_controller *table, uint8_t row);
+
+/* The usual setting: the layout is HAZELHUSK_LAYOUT_LITTLE. Where a board wants another, change that field
+ * of it. */
+static inline hazelhusk_setting hazelhusk_setting_of(uint8_t mode, uint32_t session, uint64_t limit)
+{
+    hazelhusk_setting setting = { mode, HAZELHUSK_LAYOUT_LITTLE, session, limit };
+    return setting;
+}
 
 static inline hazelhusk_iv hazelhusk_iv_of(const uint8_t bytes[12])
 {

@@ -46,7 +46,7 @@ static void expect(const char *what, uint8_t answer, uint8_t wanted, hazelhusk_p
 int main(void)
 {
     static const uint8_t iv[2][12] = { { 1, 2, 3 }, { 4, 5, 6 } };
-    hazelhusk_setting setting = { 0, 0x11223344, UINT64_MAX };
+    hazelhusk_setting setting = hazelhusk_setting_of(0, 0x11223344, UINT64_MAX);
     hazelhusk_sender sender;
     hazelhusk_receiver receiver;
     hazelhusk_part app;

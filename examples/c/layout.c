@@ -5,7 +5,7 @@
 #define SIZE(type, size) _Static_assert(sizeof(hazelhusk_##type) == (size), #type)
 #define AT(type, field, place) _Static_assert(offsetof(hazelhusk_##type, field) == (place), #type "." #field)
 
-SIZE(setting, 16); AT(setting, mode, 0); AT(setting, session, 4); AT(setting, limit, 8);
+SIZE(setting, 16); AT(setting, mode, 0); AT(setting, layout, 1); AT(setting, session, 4); AT(setting, limit, 8);
 SIZE(iv, 12);
 SIZE(marks, 8);
 SIZE(window, 16); AT(window, next, 0); AT(window, marks, 8);
@@ -35,7 +35,7 @@ static int table(void)
     static const uint8_t in[12] = { 1, 2, 3, 4, 5, 6, 7, 8, 9, 10, 11, 12 }, out[12] = { 21, 22, 23, 24, 25, 26, 27, 28, 29, 30, 31, 32 };
     static const hazelhusk_controller empty;
     hazelhusk_controller controller = empty;
-    hazelhusk_setting setting = { 1, 0x82838485, 0x868788898a8b8c8d };
+    hazelhusk_setting setting = hazelhusk_setting_of(1, 0x82838485, 0x868788898a8b8c8d);
     hazelhusk_offered offered;
     hazelhusk_sent sent;
     hazelhusk_part app;
@@ -43,6 +43,7 @@ static int table(void)
     uint32_t gaps = 99;
     if (hazelhusk_controller_open(&controller, setting, in, out, &row) || row != 0) return 1;
     setting.session++;
+    setting.layout = HAZELHUSK_LAYOUT_BIG;
     if (hazelhusk_controller_open(&controller, setting, out, in, &row) || row != 1) return 2;
     if (hazelhusk_controller_open(&controller, setting, out, in, &row) != HAZELHUSK_TWICE || row != 0) return 3;
     if (hazelhusk_controller_build(&controller, 1, plain, 1, NULL, 0, record, sizeof record, &sent)) return 4;
@@ -52,17 +53,24 @@ static int table(void)
     if (hazelhusk_controller_settle(&controller, record, sent.total, HAZELHUSK_SLOT_CURRENT, 0, 0, 2, plain, 3, &app) != HAZELHUSK_MAC || app.length) return 8;
     if (hazelhusk_controller_settle(&controller, record, sent.total, HAZELHUSK_SLOT_CURRENT, 0, 0, 1, plain, 3, &app)) return 9;
     if (app.bytes != plain + 2 || app.length != 1) return 10;
-    if (hazelhusk_controller_change_receiver(&controller, 1, in) || hazelhusk_controller_change_sender(&controller, 1, out)) return 11;
-    if (hazelhusk_controller_gaps(&controller, 1, HAZELHUSK_SLOT_OLD, &gaps) || gaps != 0) return 12;
+    /* Number 1 of this layout is in the last byte. */
+    if (hazelhusk_controller_build(&controller, 1, plain, 1, NULL, 0, record, sizeof record, &sent) || memcmp(sent.nonce, in, 11) || sent.nonce[11] != (12 ^ 1)) return 11;
+    if (hazelhusk_controller_change_receiver(&controller, 1, in) || hazelhusk_controller_change_sender(&controller, 1, out)) return 12;
+    if (hazelhusk_controller_gaps(&controller, 1, HAZELHUSK_SLOT_OLD, &gaps) || gaps != 0) return 13;
     const uint64_t first = 0x0807060504030201, last = 0x0c0b0a09, other = 0x1c1b1a1918171615, tail = 0x201f1e1d;
     const uint64_t limit = setting.limit;
-    const uint64_t words[20] = { 1, 0x82838486, limit, 1, first, last, 0, 0, 1, other, tail, 1, 1, 1, 0x82838486, limit, 1, 0, other, tail };
+    const uint64_t words[20] = { 0x101, 0x82838486, limit, 1, first, last, 0, 0, 1, other, tail, 1, 1, 0x101, 0x82838486, limit, 1, 0, other, tail };
     const uint64_t fresh[20] = { 1, 0x82838485, limit, 0, first, last, 0, 0, 0, 0, 0, 0, 0, 1, 0x82838485, limit, 0, 0, other, tail };
-    if (memcmp(controller.rows[1], words, sizeof words) || memcmp(controller.rows[0], fresh, sizeof fresh)) return 13;
-    if (hazelhusk_controller_drop(&controller, 1) || hazelhusk_controller_drop(&controller, 1) != HAZELHUSK_KEY) return 14;
-    if (hazelhusk_controller_close(&controller, 0) || hazelhusk_controller_close(&controller, 0) != HAZELHUSK_UNKNOWN) return 15;
-    if (hazelhusk_controller_close(&controller, 1) || hazelhusk_controller_close(&controller, 16) != HAZELHUSK_UNKNOWN) return 16;
+    if (memcmp(controller.rows[1], words, sizeof words) || memcmp(controller.rows[0], fresh, sizeof fresh)) return 14;
+    if (hazelhusk_controller_drop(&controller, 1) || hazelhusk_controller_drop(&controller, 1) != HAZELHUSK_KEY) return 15;
+    if (hazelhusk_controller_close(&controller, 0) || hazelhusk_controller_close(&controller, 0) != HAZELHUSK_UNKNOWN) return 16;
+    if (hazelhusk_controller_close(&controller, 1) || hazelhusk_controller_close(&controller, 16) != HAZELHUSK_UNKNOWN) return 17;
     return memcmp(&controller, &empty, sizeof empty) != 0;
+}
+
+static bool same_setting(hazelhusk_setting a, hazelhusk_setting b)
+{
+    return a.mode == b.mode && a.layout == b.layout && a.session == b.session && a.limit == b.limit;
 }
 
 /* A state that is refused comes back as it was: every field crosses the boundary at its place. */
@@ -74,7 +82,7 @@ int main(void)
     memset(&receiver, 0, sizeof receiver);
     memset(&sender, 0, sizeof sender);
     uint8_t byte = 0;
-    receiver.setting = (hazelhusk_setting){ 0x81, 0x82838485, 0x868788898a8b8c8d };
+    receiver.setting = (hazelhusk_setting){ 0x81, 0x92, 0x82838485, 0x868788898a8b8c8d };
     receiver.count = 0x8e8f9091;
     receiver.held = true;
     for (int i = 0; i < 12; i++) { receiver.current.iv[i] = ++byte; receiver.old.iv[i] = ++byte; sender.iv[i] = ++byte; }
@@ -86,11 +94,11 @@ int main(void)
     hazelhusk_receiver was = receiver;
     hazelhusk_sender had = sender;
     if (hazelhusk_drop(&receiver) != HAZELHUSK_STATE || hazelhusk_sender_change_key(&sender, had.iv) != HAZELHUSK_STATE) return 1;
-    return receiver.setting.mode != was.setting.mode || receiver.setting.session != was.setting.session
-        || receiver.setting.limit != was.setting.limit || receiver.count != was.count || receiver.held != was.held
+    return !same_setting(receiver.setting, was.setting) || !same_setting(sender.setting, had.setting)
+        || receiver.count != was.count || receiver.held != was.held
         || memcmp(receiver.current.iv, was.current.iv, 12) || receiver.current.window.next != was.current.window.next
         || receiver.current.window.marks.word != was.current.window.marks.word
         || memcmp(receiver.old.iv, was.old.iv, 12) || receiver.old.window.next != was.old.window.next
         || receiver.old.window.marks.word != was.old.window.marks.word || sender.count != had.count
-        || sender.next != had.next || memcmp(sender.iv, had.iv, 12) || sender.setting.limit != had.setting.limit;
+        || sender.next != had.next || memcmp(sender.iv, had.iv, 12);
 }
