@@ -1,7 +1,8 @@
 //! Build, of records in mode 1 without random bytes.
 use crate::records::{app, setting, IV};
+use compare::setting_out;
 use husk::raw;
-use reference::{fast, Setting};
+use reference::fast;
 use std::hint::black_box;
 
 /// What both ways build from, and where to.
@@ -33,8 +34,7 @@ impl Work {
 
     /// The quick reference, with its state changed in place.
     pub fn fast(&mut self) -> usize {
-        let husk::Setting { mode, session, limit } = setting(1);
-        let (_, mut state) = fast::Sender::open(Setting { mode, session, limit }, IV);
+        let (_, mut state) = fast::Sender::open(setting_out(setting(1)), IV);
         let mut built = 0;
         for _ in 0..self.count {
             let app = black_box(&self.app[..]);

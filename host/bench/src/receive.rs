@@ -1,7 +1,8 @@
 //! Offer and settle of a whole set, from a new channel; the cipher always says yes.
 use crate::records::{setting, Set, IV};
+use compare::setting_out;
 use husk::raw;
-use reference::{fast, Setting};
+use reference::fast;
 use std::hint::black_box;
 
 /// The proved version, by value. Answers how many records were taken.
@@ -27,8 +28,7 @@ pub fn ours(set: &Set) -> usize {
 
 /// The quick reference, with its state changed in place. The compiler may inline it.
 pub fn fast(set: &Set) -> usize {
-    let husk::Setting { mode, session, limit } = setting(set.mode);
-    let (_, mut state) = fast::Receiver::open(Setting { mode, session, limit }, IV);
+    let (_, mut state) = fast::Receiver::open(setting_out(setting(set.mode)), IV);
     let mut taken = 0;
     for rec in set.records() {
         let rec = black_box(rec);

@@ -5,7 +5,7 @@ use husk::{Setting, HEADER, MAC, ROWS};
 pub const IV: [u8; 12] = [0, 1, 2, 3, 4, 5, 6, 7, 8, 9, 10, 11];
 
 pub fn setting(mode: u8) -> Setting {
-    Setting { mode, session: 0x1122_3344, limit: u64::MAX }
+    Setting::new(mode, 0x1122_3344, u64::MAX)
 }
 
 /// The setting of a table's row: each has a Session ID of its own.

@@ -1,7 +1,8 @@
 //! Offer and settle of a whole set in a full table of sixteen rows; the cipher always says yes.
 use crate::records::{row_setting, Set, IV};
+use compare::setting_out;
 use husk::{raw, ROWS};
-use reference::{fast, RawRow, RawTable, Setting};
+use reference::{fast, RawRow, RawTable};
 use std::hint::black_box;
 
 /// A new table with every row open, to be copied for each pass.
@@ -18,8 +19,7 @@ pub fn full(mode: u8) -> raw::Table {
 pub fn full_fast(mode: u8) -> fast::Table {
     let mut rows = RawTable::default();
     for (place, row) in rows.iter_mut().enumerate() {
-        let husk::Setting { mode, session, limit } = row_setting(mode, place);
-        let setting = Setting { mode, session, limit };
+        let setting = setting_out(row_setting(mode, place));
         let ((_, receiver), (_, sender)) = (fast::Receiver::open(setting, IV), fast::Sender::open(setting, IV));
         *row = RawRow { receiver: receiver.raw(), sender: sender.raw() };
     }

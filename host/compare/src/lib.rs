@@ -18,11 +18,13 @@ pub struct HuskSender(raw::Sender);
 #[derive(Clone, Copy, Debug)]
 pub struct HuskReceiver(raw::Receiver);
 
-fn setting_in(s: Setting) -> raw::Setting {
+/// The reference's setting, for the proved version.
+pub fn setting_in(s: Setting) -> raw::Setting {
     raw::Setting { mode: s.mode, session: s.session, limit: s.limit }
 }
 
-fn setting_out(s: raw::Setting) -> Setting {
+/// The proved version's setting, for the reference.
+pub fn setting_out(s: raw::Setting) -> Setting {
     Setting { mode: s.mode, session: s.session, limit: s.limit }
 }
 
@@ -126,7 +128,7 @@ impl Version for Husk {
         if number == u64::MAX {
             return reference::memory::nonce(iv, number);
         }
-        let setting = raw::Setting { mode: 0, session: 0, limit: u64::MAX };
+        let setting = raw::Setting::new(0, 0, u64::MAX);
         let sender = raw::Sender { setting, count: 0, next: number, iv: *iv };
         sender.build(&[], &[], &mut [0; 24]).nonce
     }

@@ -109,7 +109,7 @@ fn no_call_strays_from_its_table() {
         table.change_receiver(row, rng.iv());
         table.change_sender(row, rng.iv());
         table.drop_old(row);
-        table.open(raw::Setting { mode: 1, session: rng.word() as u32, limit: 9 }, rng.iv(), rng.iv());
+        table.open(raw::Setting::new(1, rng.word() as u32, 9), rng.iv(), rng.iv());
         table.close(row);
     }
 }

@@ -54,11 +54,8 @@ impl Bay {
 
     /// A board and its row at the controller, which have a Session ID, keys and IVs of their own.
     fn meet(&mut self, plan: Plan, back: &Secret) -> Result<(), Refusal> {
-        let setting = Setting {
-            mode: plan.mode,
-            session: u32::from_le_bytes(self.rng.bytes()),
-            limit: u64::MAX,
-        };
+        let session = u32::from_le_bytes(self.rng.bytes());
+        let setting = Setting::new(plan.mode, session, u64::MAX);
         let secret = Secret::agree(&mut self.rng);
         self.places.push(Place {
             plan,

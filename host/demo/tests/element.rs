@@ -16,11 +16,7 @@ struct Pair {
 impl Pair {
     fn new() -> Pair {
         let mut rng = Rng::new(7);
-        let setting = Setting {
-            mode: husk::ENCRYPTED,
-            session: 0x1122_3344,
-            limit: u64::MAX,
-        };
+        let setting = Setting::new(husk::ENCRYPTED, 0x1122_3344, u64::MAX);
         let [secret, back] = [Secret::agree(&mut rng), Secret::agree(&mut rng)];
         let mut controller = Controller::new();
         assert_eq!(controller.open(setting, &secret, &back), Ok(0));

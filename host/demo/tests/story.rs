@@ -127,11 +127,7 @@ fn what_is_handed_out_is_what_was_measured() {
     let mut rng = Rng::new(1);
     let mut controller = Controller::new();
     for mode in [husk::AUTHENTICATED, husk::ENCRYPTED] {
-        let setting = Setting {
-            mode,
-            session: 0x1122_3344 + u32::from(mode),
-            limit: 50,
-        };
+        let setting = Setting::new(mode, 0x1122_3344 + u32::from(mode), 50);
         let [secret, back] = [Secret::agree(&mut rng), Secret::agree(&mut rng)];
         let mut board = Board::new(setting, &secret, rng.split()).unwrap();
         let place = controller.open(setting, &secret, &back).unwrap();

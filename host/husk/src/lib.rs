@@ -24,6 +24,7 @@ pub mod raw;
 mod receiver;
 mod refusal;
 mod sender;
+mod setting;
 pub mod wrapping;
 
 pub use controller::Controller;

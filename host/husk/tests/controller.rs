@@ -2,7 +2,7 @@
 use husk::{raw, Controller, Refusal, Sender, Setting, CURRENT, OLD};
 
 fn setting(mode: u8, session: u32) -> Setting {
-    Setting { mode, session, limit: u64::MAX }
+    Setting::new(mode, session, u64::MAX)
 }
 
 /// A record of a board whose send key has this IV, with its MAC left as zeros.

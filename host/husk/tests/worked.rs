@@ -2,7 +2,7 @@
 use husk::{raw, Receiver, Refusal, Sender, Setting};
 
 fn setting(mode: u8) -> Setting {
-    Setting { mode, session: 0x1122_3344, limit: u64::MAX }
+    Setting::new(mode, 0x1122_3344, u64::MAX)
 }
 
 #[test]
@@ -41,8 +41,8 @@ fn keys_change_and_the_old_one_is_dropped() {
 
 #[test]
 fn a_refused_open_is_an_error_and_zeros_are_state() {
-    assert_eq!(Sender::open(Setting { mode: 2, session: 1, limit: 1 }, [0; 12]), Err(Refusal::Setting));
-    assert_eq!(Receiver::open(Setting { mode: 0, session: 1, limit: 0 }, [0; 12]), Err(Refusal::Setting));
+    assert_eq!(Sender::open(Setting::new(2, 1, 1), [0; 12]), Err(Refusal::Setting));
+    assert_eq!(Receiver::open(Setting::new(0, 1, 0), [0; 12]), Err(Refusal::Setting));
     let zeros = Receiver::from_state(raw::Receiver::default());
     assert_eq!(zeros.offer(&[], 9), Err(Refusal::State));
     assert_eq!(Sender::from_state(raw::Sender::default()).change_key([1; 12]), Err(Refusal::State));

@@ -1,4 +1,5 @@
 //! One call of a table, and what comes of it in both programs.
+use crate::setting_in;
 use husk::raw;
 use reference::random::{any_setting, good_setting, sender_call, Mailbox, ReceiverCall, Rng, SenderCall};
 use reference::table::row_is_free;
@@ -114,9 +115,8 @@ impl Call {
     /// The call in the proved table. `no` is the byte for a cipher that said no.
     pub fn in_husk(&self, table: &mut raw::Table, no: u8) -> Answer {
         match self {
-            Call::Open(s, iv, iw) => {
-                let setting = raw::Setting { mode: s.mode, session: s.session, limit: s.limit };
-                let raw::Opened { answer, row } = table.open(setting, *iv, *iw);
+            Call::Open(setting, iv, iw) => {
+                let raw::Opened { answer, row } = table.open(setting_in(*setting), *iv, *iw);
                 Answer::Opened(Opened { answer, row })
             }
             Call::Close(row) => Answer::Only(table.close(*row)),
