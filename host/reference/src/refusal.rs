@@ -7,7 +7,7 @@
 pub enum Refusal {
     /// The state given is one that no call returns.
     State = 1,
-    /// Mode above 1, or L = 0.
+    /// Mode or nonce layout above 1, or L = 0.
     Setting = 2,
     /// Slot above 1, or the old key wanted with none held.
     Key = 3,

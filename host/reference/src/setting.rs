@@ -12,8 +12,24 @@ pub type Nonce = [u8; 12];
 pub struct Setting {
     /// 0 is authentication only, 1 is encryption and authentication.
     pub mode: u8,
+    /// Nonce layout: 0 has the number little-endian in the first 8 bytes, 1
+    /// big-endian in the last 8.
+    pub layout: u8,
     /// Session ID of the channel.
     pub session: u32,
     /// Record limit L: usable numbers are 0 to L - 1 for each key.
     pub limit: u64,
+}
+
+impl Setting {
+    /// A setting as page 01 alone has it: nonce layout 0.
+    #[must_use]
+    pub const fn new(mode: u8, session: u32, limit: u64) -> Self {
+        Setting {
+            mode,
+            layout: 0,
+            session,
+            limit,
+        }
+    }
 }

@@ -54,8 +54,8 @@ pub trait Version {
     type Sender: SenderCalls;
     /// Its receiver.
     type Receiver: ReceiverCalls;
-    /// The nonce of a number.
-    fn nonce(iv: &Iv, number: u64) -> Nonce;
+    /// The nonce of a number in a layout.
+    fn nonce(layout: u8, iv: &Iv, number: u64) -> Nonce;
     /// The part handed out.
     fn view<'a>(mode: u8, place: u64, len: u64, rec: &'a [u8], plain: &'a [u8]) -> &'a [u8];
     /// Writes application data.
@@ -139,8 +139,8 @@ macro_rules! version {
         impl Version for $name {
             type Sender = $module::Sender;
             type Receiver = $module::Receiver;
-            fn nonce(iv: &Iv, number: u64) -> Nonce {
-                $module::nonce(iv, number)
+            fn nonce(layout: u8, iv: &Iv, number: u64) -> Nonce {
+                $module::nonce(layout, iv, number)
             }
             fn view<'a>(
                 mode: u8,

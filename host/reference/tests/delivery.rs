@@ -5,10 +5,10 @@ mod common;
 
 use std::collections::BTreeMap;
 
-use common::{setting, toy};
+use common::{good_settings, toy};
 use reference::random::{damage, Rng};
 use reference::version::{ReceiverCalls, SenderCalls, Version};
-use reference::Offered;
+use reference::{Offered, Setting};
 
 /// A message on the bridge.
 type Message = Vec<u8>;
@@ -16,7 +16,7 @@ type Message = Vec<u8>;
 type Sent = BTreeMap<(u32, u64), Vec<u8>>;
 
 struct Line<V: Version> {
-    mode: u8,
+    setting: Setting,
     rng: Rng,
     sender: V::Sender,
     receiver: V::Receiver,
@@ -31,13 +31,13 @@ fn secret(count: u32) -> u64 {
 }
 
 impl<V: Version> Line<V> {
-    fn new(mode: u8, seed: u64) -> Self {
+    fn new(setting: Setting, seed: u64) -> Self {
         let mut rng = Rng::new(seed);
         let iv = rng.iv();
         Line {
-            mode,
-            sender: V::Sender::open(setting(mode), iv).1,
-            receiver: V::Receiver::open(setting(mode), iv).1,
+            setting,
+            sender: V::Sender::open(setting, iv).1,
+            receiver: V::Receiver::open(setting, iv).1,
             rng,
             bridge: Vec::new(),
             sent: Sent::new(),
@@ -51,7 +51,7 @@ impl<V: Version> Line<V> {
         let body = self.rng.bytes(len);
         let mut app = vec![0; len + 1];
         assert_eq!(V::wrap_data(true, 5, &body, &mut app).0, 0);
-        let padding = self.rng.below(9) as usize * usize::from(self.mode);
+        let padding = self.rng.below(9) as usize * usize::from(self.setting.mode);
         let random = self.rng.bytes(padding);
         let mut out = [0; 128];
         let built = self.sender.build(&app, &random, &mut out);
@@ -94,7 +94,8 @@ impl<V: Version> Line<V> {
             assert_eq!((settled.answer, passed), (13, false));
             return false;
         }
-        let app = V::view(self.mode, settled.place, settled.length, rec, &plain);
+        let mode = self.setting.mode;
+        let app = V::view(mode, settled.place, settled.length, rec, &plain);
         assert_eq!(V::read_data(app), (0, true, 5));
         let sent = self.sent.remove(&(count, number));
         assert_eq!(
@@ -128,8 +129,8 @@ impl<V: Version> Line<V> {
 }
 
 fn what_is_handed_out_was_sent<V: Version>() {
-    for mode in 0..2 {
-        let mut line = Line::<V>::new(mode, 60 + u64::from(mode));
+    for (setting, seed) in good_settings().into_iter().zip(60..) {
+        let mut line = Line::<V>::new(setting, seed);
         line.run(60_000);
         assert!(line.handed > 12_000, "{}", line.handed);
     }
@@ -137,8 +138,8 @@ fn what_is_handed_out_was_sent<V: Version>() {
 
 /// In order and without loss every record comes through, over a 16-bit turn.
 fn all_that_is_sent_comes_through<V: Version>() {
-    for mode in 0..2 {
-        let mut line = Line::<V>::new(mode, 70);
+    for setting in good_settings() {
+        let mut line = Line::<V>::new(setting, 70);
         for _ in 0..66_000 {
             line.send();
             let msg = line.bridge.pop().unwrap_or_default();

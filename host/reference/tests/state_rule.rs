@@ -2,7 +2,7 @@
 
 mod common;
 
-use common::{key, receiver, receiver_with_old, record, sender, IV};
+use common::{bad_settings, key, receiver, receiver_with_old, record, sender, IV};
 use reference::version::{ReceiverCalls, SenderCalls, Version};
 use reference::{RawKey, RawReceiver, RawSender, Setting};
 
@@ -48,9 +48,6 @@ fn bad_states() -> Vec<RawReceiver> {
     last_iv_byte.iv[11] = 1;
     vec![
         RawReceiver::default(),
-        receiver(2, 0, 0),
-        receiver(255, 0, 0),
-        limited(0, receiver(0, 0, 0)),
         limited(9, receiver(0, 10, 1)),
         limited(9, with_old(10, 1)),
         receiver(0, 0, 1),
@@ -75,7 +72,11 @@ fn bad_states() -> Vec<RawReceiver> {
 }
 
 fn bad_receivers_are_refused<V: Version>() {
-    for state in bad_states() {
+    let badly_set = bad_settings().into_iter().map(|setting| RawReceiver {
+        setting,
+        ..receiver(0, 0, 0)
+    });
+    for state in bad_states().into_iter().chain(badly_set) {
         assert_eq!(answers::<V>(state), ([1; 5], true), "{state:?}");
     }
 }
@@ -117,8 +118,6 @@ fn senders<V: Version>() {
     };
     for (state, build, change) in [
         (RawSender::default(), 1, 1),
-        (sender(2, 0), 1, 1),
-        (limited(0, 0), 1, 1),
         (limited(9, 10), 1, 1),
         (limited(9, 9), 8, 0),
         (limited(9, 8), 0, 0),
@@ -139,6 +138,19 @@ fn senders<V: Version>() {
     }
 }
 
+fn badly_set_senders<V: Version>() {
+    for setting in bad_settings() {
+        let state = RawSender {
+            setting,
+            ..sender(0, 0)
+        };
+        let mut sender = V::Sender::from_raw(state);
+        assert_eq!(sender.build(&[], &[], &mut [0; 26]).answer, 1);
+        assert_eq!(sender.change_key([7; 12]), 1);
+        assert_eq!(sender.raw(), state);
+    }
+}
+
 /// Opens both ends and gives their answers and states.
 fn open<V: Version>(setting: Setting) -> ((u8, RawSender), (u8, RawReceiver)) {
     let (sent, sender) = V::Sender::open(setting, IV);
@@ -147,26 +159,14 @@ fn open<V: Version>(setting: Setting) -> ((u8, RawSender), (u8, RawReceiver)) {
 }
 
 fn open_refuses_and_gives_zeros<V: Version>() {
-    let session = 5;
-    for (mode, limit) in [(2, 1), (0, 0), (1, 0), (255, 0)] {
-        let setting = Setting {
-            mode,
-            session,
-            limit,
-        };
+    for setting in bad_settings() {
         let zeros = ((2, RawSender::default()), (2, RawReceiver::default()));
         assert_eq!(open::<V>(setting), zeros);
     }
 }
 
 fn open_gives_a_new_state<V: Version>() {
-    let session = 5;
-    for (mode, limit) in [(0, 1), (1, u64::MAX)] {
-        let setting = Setting {
-            mode,
-            session,
-            limit,
-        };
+    for setting in [Setting::new(0, 5, 1), Setting::new(1, 5, u64::MAX)] {
         let (count, next, iv) = (0, 0, IV);
         let sender = RawSender {
             setting,
@@ -188,6 +188,7 @@ for_both!(
     bad_receivers_are_refused,
     good_receivers_are_not,
     senders,
+    badly_set_senders,
     open_refuses_and_gives_zeros,
     open_gives_a_new_state,
 );

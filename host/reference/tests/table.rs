@@ -2,7 +2,7 @@
 
 mod common;
 
-use common::IV;
+use common::{bad_settings, IV};
 use reference::{
     fast, Built, Offered, Opened, RawReceiver, RawRow, RawTable, Setting, Settled, Table,
 };
@@ -21,11 +21,7 @@ fn session(row: u8) -> u32 {
 }
 
 fn setting(session: u32) -> Setting {
-    Setting {
-        mode: 1,
-        session,
-        limit: 1_000,
-    }
+    Setting::new(1, session, 1_000)
 }
 
 fn opened(answer: u8, row: u8) -> Opened {
@@ -116,29 +112,25 @@ fn open_gives_each_direction_its_iv() {
     assert_eq!(changed(&RawTable::default(), &table.raw()), [0]);
 }
 
+/// Open in a table of so many rows gives this refusal and changes nothing.
+fn open_refuses(rows: u8, setting: Setting, answer: u8) {
+    let mut table = filled(rows);
+    let before = table.raw();
+    assert_eq!(table.open(setting, IV, OTHER_IV), opened(answer, 0));
+    assert_eq!(table.raw(), before);
+}
+
 #[test]
 fn open_refuses_in_its_order() {
-    let worse = Setting {
-        mode: 2,
-        ..setting(session(0))
-    };
-    let empty = Setting {
-        limit: 0,
-        ..setting(session(0))
-    };
-    for (rows, setting, answer) in [
-        (16, worse, SETTING),
-        (16, empty, SETTING),
-        (16, setting(session(15)), TWICE),
-        (16, setting(session(16)), ROWS),
-        (15, setting(session(14)), TWICE),
-        (0, worse, SETTING),
-    ] {
-        let mut table = filled(rows);
-        let before = table.raw();
-        assert_eq!(table.open(setting, IV, OTHER_IV), opened(answer, 0));
-        assert_eq!(table.raw(), before);
+    for bad in bad_settings() {
+        let session = session(0);
+        for rows in [0, 1, 16] {
+            open_refuses(rows, Setting { session, ..bad }, SETTING);
+        }
     }
+    open_refuses(16, setting(session(15)), TWICE);
+    open_refuses(16, setting(session(16)), ROWS);
+    open_refuses(15, setting(session(14)), TWICE);
     assert_eq!(filled(15).open(setting(session(15)), IV, IV), opened(0, 15));
 }
 

@@ -2,7 +2,7 @@
 
 mod common;
 
-use common::{receiver, record, sender, IV, SESSION};
+use common::{receiver, record, sender, SESSION};
 use reference::version::{ReceiverCalls, SenderCalls, Version};
 use reference::{Built, Offered, Settled};
 
@@ -96,16 +96,6 @@ fn mode_1_is_read_back<V: Version>() {
     assert!(std::ptr::eq(part, &plain[2..5]), "a part of the plaintext");
 }
 
-fn the_nonce<V: Version>() {
-    let nonce = [2, 0, 2, 3, 4, 5, 6, 7, 8, 9, 10, 11];
-    assert_eq!(V::nonce(&IV, 0x0102), nonce);
-    let highest = V::nonce(&[0; 12], u64::MAX);
-    assert_eq!(
-        highest,
-        [255, 255, 255, 255, 255, 255, 255, 255, 0, 0, 0, 0]
-    );
-}
-
 /// Builds with P and R bytes and gives the answer and the total.
 fn build_of<V: Version>(mode: u8, data: usize, random: usize) -> (u8, u64) {
     let mut out = vec![FILL; 8 + 65_535];
@@ -182,7 +172,6 @@ for_both!(
     mode_1_record,
     mode_0_is_read_back,
     mode_1_is_read_back,
-    the_nonce,
     sizes,
     the_largest_record_is_read,
     length_18,

@@ -77,7 +77,7 @@ pub fn apply_function<V: Version>(call: &FunctionCall) -> FunctionOutcome {
             rec,
             plain,
         } => handed(0, V::view(*mode, *place, *len, rec, plain)),
-        FunctionCall::Nonce { iv, number } => handed(0, &V::nonce(iv, *number)),
+        FunctionCall::Nonce { layout, iv, number } => handed(0, &V::nonce(*layout, iv, *number)),
     }
 }
 

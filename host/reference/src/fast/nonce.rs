@@ -2,12 +2,17 @@
 
 use crate::setting::{Iv, Nonce};
 
-/// The IV with the number XORed into its first 8 bytes, little-endian.
+/// The IV with the number XORed into its last 8 bytes, big-endian, in layout
+/// 1, and into its first 8, little-endian, otherwise.
 #[inline]
 #[must_use]
-pub fn nonce(iv: &Iv, number: u64) -> Nonce {
+pub fn nonce(layout: u8, iv: &Iv, number: u64) -> Nonce {
     let mut nonce = *iv;
-    for (byte, digit) in nonce.iter_mut().zip(number.to_le_bytes()) {
+    let (first, digits) = match layout {
+        1 => (4, number.to_be_bytes()),
+        _ => (0, number.to_le_bytes()),
+    };
+    for (byte, digit) in nonce[first..].iter_mut().zip(digits) {
         *byte ^= digit;
     }
     nonce

@@ -97,7 +97,7 @@ impl Receiver {
             answer: 0,
             count: checked.count,
             number: checked.number,
-            nonce: nonce(&key.iv, checked.number),
+            nonce: nonce(self.setting.layout, &key.iv, checked.number),
             assoc,
             text,
         }

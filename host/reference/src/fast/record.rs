@@ -14,7 +14,7 @@ pub(super) struct Header {
 /// Whether Open would refuse the setting.
 #[inline]
 pub(super) fn setting_is_bad(setting: &Setting) -> bool {
-    setting.mode > 1 || setting.limit == 0
+    setting.mode > 1 || setting.layout > 1 || setting.limit == 0
 }
 
 /// Length of a record with neither data nor random bytes.

@@ -82,7 +82,7 @@ impl Sender {
         Built {
             answer: 0,
             number,
-            nonce: nonce(&self.iv, number),
+            nonce: nonce(self.setting.layout, &self.iv, number),
             assoc,
             text,
             total: text + Record::MAC as u64,

@@ -86,12 +86,13 @@ impl Channel {
 
     pub(super) fn offer(&self, rec: &[u8], slot: u8) -> Result<Offered, Refusal> {
         let weighed = self.weigh(rec, slot)?;
-        let (assoc, text) = ends(self.setting.mode, weighed.length);
+        let Setting { mode, layout, .. } = self.setting;
+        let (assoc, text) = ends(mode, weighed.length);
         Ok(Offered {
             answer: 0,
             count: weighed.count,
             number: weighed.number,
-            nonce: nonce(&self.keys[&weighed.count].iv, weighed.number),
+            nonce: nonce(layout, &self.keys[&weighed.count].iv, weighed.number),
             assoc,
             text,
         })

@@ -4,10 +4,10 @@ use crate::layout::Window;
 use crate::raw::{RawKey, RawReceiver, RawSender};
 use crate::setting::Setting;
 
-/// A setting that Open refuses: mode above 1, or L = 0.
+/// A setting that Open refuses: mode or layout above 1, or L = 0.
 #[must_use]
 pub fn setting_is_bad(setting: &Setting) -> bool {
-    setting.mode > 1 || setting.limit == 0
+    setting.mode > 1 || setting.layout > 1 || setting.limit == 0
 }
 
 /// A sender's state that every call refuses.

@@ -73,7 +73,7 @@ impl Sender {
         Ok(Built {
             answer: 0,
             number: next,
-            nonce: nonce(&self.state.iv, next),
+            nonce: nonce(setting.layout, &self.state.iv, next),
             assoc,
             text,
             total,

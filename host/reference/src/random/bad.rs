@@ -36,11 +36,17 @@ pub fn any_receiver(rng: &mut Rng) -> RawReceiver {
 }
 
 fn break_setting(rng: &mut Rng, setting: &mut Setting) {
-    match rng.below(3) {
-        0 => setting.mode = rng.pick(&[2, 3, 128, 255]),
+    match rng.below(4) {
+        0 => setting.mode = above_one(rng),
         1 => setting.mode = rng.word() as u8,
+        2 => setting.layout = above_one(rng),
         _ => setting.limit = 0,
     }
+}
+
+/// A value that no choice between two has.
+fn above_one(rng: &mut Rng) -> u8 {
+    rng.pick(&[2, 3, 128, 255])
 }
 
 fn break_receiver(rng: &mut Rng, state: &mut RawReceiver) {
@@ -97,6 +103,7 @@ fn scramble(rng: &mut Rng) -> RawReceiver {
     RawReceiver {
         setting: Setting {
             mode: rng.word() as u8,
+            layout: rng.word() as u8,
             session: rng.word() as u32,
             limit: rng.word(),
         },

@@ -51,6 +51,8 @@ pub enum FunctionCall {
     },
     /// The nonce.
     Nonce {
+        /// A layout that Open takes; the page gives no nonce for another.
+        layout: u8,
         /// The key's IV.
         iv: Iv,
         /// The number.
@@ -99,6 +101,7 @@ pub fn function_call(rng: &mut Rng) -> FunctionCall {
             plain: bytes(rng),
         },
         _ => FunctionCall::Nonce {
+            layout: rng.below(2) as u8,
             iv: rng.iv(),
             number: edge(rng),
         },

@@ -14,6 +14,7 @@ pub fn good_setting(rng: &mut Rng) -> Setting {
     };
     Setting {
         mode: rng.below(2) as u8,
+        layout: rng.below(2) as u8,
         session,
         limit: limit(rng),
     }

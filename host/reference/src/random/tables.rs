@@ -4,6 +4,7 @@ use super::bad::{any_receiver, any_sender};
 use super::rng::Rng;
 use super::states::{good_receiver, good_sender};
 use crate::raw::{RawRow, RawTable};
+use crate::setting::Setting;
 
 /// A table, refused as a whole about once in six times.
 pub fn any_table(rng: &mut Rng) -> RawTable {
@@ -46,8 +47,7 @@ fn nearly_free(rng: &mut Rng) -> RawRow {
     let mut row = RawRow::default();
     let byte = rng.below(12) as usize;
     match rng.below(14) {
-        0 => row.receiver.setting.mode = 1,
-        1 => row.receiver.setting.limit = 1,
+        0 | 1 => set_one(rng, &mut row.receiver.setting),
         2 => row.receiver.count = 1,
         3 => row.receiver.current.iv[byte] = 1,
         4 => row.receiver.current.next = 1,
@@ -56,12 +56,21 @@ fn nearly_free(rng: &mut Rng) -> RawRow {
         7 => row.receiver.old.iv[byte] = 1,
         8 => row.receiver.old.next = 1,
         9 => row.receiver.old.marks = 1,
-        10 => row.sender.setting.limit = 1,
+        10 => set_one(rng, &mut row.sender.setting),
         11 => row.sender.count = 1,
         12 => row.sender.next = 1,
         _ => row.sender.iv[byte] = 1,
     }
     row
+}
+
+/// One field of a setting of zeros.
+fn set_one(rng: &mut Rng, setting: &mut Setting) {
+    match rng.below(3) {
+        0 => setting.mode = 1,
+        1 => setting.layout = 1,
+        _ => setting.limit = 1,
+    }
 }
 
 /// Two rows with one Session ID, if both are open.

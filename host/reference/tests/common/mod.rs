@@ -3,6 +3,7 @@
 
 pub mod toy;
 
+use reference::version::{ReceiverCalls, SenderCalls, Version};
 use reference::{Iv, RawKey, RawReceiver, RawSender, Setting};
 
 pub const SESSION: u32 = 0x1122_3344;
@@ -23,11 +24,41 @@ macro_rules! for_both {
 
 /// The setting of the worked cases, with the highest limit.
 pub fn setting(mode: u8) -> Setting {
-    Setting {
-        mode,
-        session: SESSION,
-        limit: u64::MAX,
-    }
+    Setting::new(mode, SESSION, u64::MAX)
+}
+
+/// Settings in both modes, with each choice that Open leaves at least once.
+pub fn good_settings() -> Vec<Setting> {
+    let base = (0..2).map(setting);
+    base.flat_map(|base| [base, Setting { layout: 1, ..base }])
+        .collect()
+}
+
+/// A setting for each way in which Open refuses one.
+pub fn bad_settings() -> Vec<Setting> {
+    let good = setting(0);
+    vec![
+        setting(2),
+        setting(255),
+        Setting { layout: 2, ..good },
+        Setting {
+            layout: 255,
+            ..good
+        },
+        Setting { limit: 0, ..good },
+        Setting {
+            limit: 0,
+            ..setting(1)
+        },
+    ]
+}
+
+/// Both ends with the same setting, opened.
+pub fn opened<V: Version>(setting: Setting) -> (V::Sender, V::Receiver) {
+    let (sent, sender) = V::Sender::open(setting, IV);
+    let (received, receiver) = V::Receiver::open(setting, IV);
+    assert_eq!((sent, received), (0, 0));
+    (sender, receiver)
 }
 
 /// A key with E and a window word.
