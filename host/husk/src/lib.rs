@@ -41,6 +41,12 @@ pub const OLD: u8 = 1;
 pub const AUTHENTICATED: u8 = 0;
 /// Mode 1: encryption and authentication.
 pub const ENCRYPTED: u8 = 1;
+/// Layout 0: of the 12 bytes that are XORed with the IV and make a nonce, the first 8 hold the record's
+/// number, little-endian, and the others are zeros.
+pub const LAYOUT_LITTLE: u8 = 0;
+/// Layout 1, the second maker's: zeros, and the number big-endian in the last 8. Number 0 has the same nonce
+/// in both layouts, so between ends that differ record 0 passes and the cipher refuses those after it.
+pub const LAYOUT_BIG: u8 = 1;
 /// The length of a record's header.
 pub const HEADER: usize = 8;
 /// The length of a record's MAC.

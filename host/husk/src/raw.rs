@@ -6,11 +6,17 @@
 
 pub use crate::calls::{body_of, read_data, read_message, record_of, view, wrap_data, wrap_record};
 
+/// What both ends of a channel need alike; [`Setting::new`] makes the usual one.
 #[repr(C)]
 #[derive(Clone, Copy, Debug, Default, PartialEq, Eq)]
 pub struct Setting {
+    /// [`crate::AUTHENTICATED`] or [`crate::ENCRYPTED`].
     pub mode: u8,
+    /// How a number makes a nonce: [`crate::LAYOUT_LITTLE`] or [`crate::LAYOUT_BIG`].
+    pub layout: u8,
+    /// The Session ID.
     pub session: u32,
+    /// Each key's numbers are those below it.
     pub limit: u64,
 }
 

@@ -7,7 +7,7 @@ use core::fmt;
 pub enum Refusal {
     /// The state is none that the calls return.
     State = 1,
-    /// Mode above 1, or a limit of 0.
+    /// Mode or layout above 1, or a limit of 0.
     Setting = 2,
     /// No such key slot, or no old key.
     Key = 3,

@@ -1,5 +1,5 @@
 //! The controller's table through the safe face.
-use husk::{raw, Controller, Refusal, Sender, Setting, CURRENT, OLD};
+use husk::{raw, Controller, Refusal, Sender, Setting, CURRENT, LAYOUT_BIG, LAYOUT_LITTLE, OLD};
 
 fn setting(mode: u8, session: u32) -> Setting {
     Setting::new(mode, session, u64::MAX)
@@ -48,6 +48,23 @@ fn the_length_of_the_text_says_the_mode() {
 }
 
 #[test]
+fn each_row_has_its_own_layout() {
+    let mut controller = Controller::new();
+    for layout in [LAYOUT_LITTLE, LAYOUT_BIG] {
+        let setting = Setting { layout, ..setting(1, layout.into()) };
+        let mut board = Sender::open(setting, [0; 12]).unwrap();
+        let row = controller.open(setting, [0; 12], [0; 12]).unwrap();
+        let numbers = [record(&mut board, b"a"), record(&mut board, b"a")];
+        let mut out = [0; 64];
+        controller.build(row, b"a", b"", &mut out).unwrap();
+        let mut one = [0; 12];
+        one[if layout == LAYOUT_LITTLE { 0 } else { 11 }] = 1;
+        assert_eq!(controller.build(row, b"a", b"", &mut out).unwrap().nonce, one);
+        assert_eq!(numbers.map(|rec| controller.offer(&rec, CURRENT).unwrap().nonce), [[0; 12], one]);
+    }
+}
+
+#[test]
 fn rows_are_taken_and_freed_lowest_first() {
     let mut controller = Controller::default();
     for row in 0..husk::ROWS as u8 {
@@ -55,6 +72,8 @@ fn rows_are_taken_and_freed_lowest_first() {
     }
     let full = controller.clone();
     assert_eq!(controller.open(setting(2, 99), [0; 12], [0; 12]), Err(Refusal::Setting));
+    let third = Setting { layout: 2, ..setting(1, 99) };
+    assert_eq!(controller.open(third, [0; 12], [0; 12]), Err(Refusal::Setting));
     assert_eq!(controller.open(setting(1, 15), [0; 12], [0; 12]), Err(Refusal::Twice));
     assert_eq!(controller.open(setting(1, 99), [0; 12], [0; 12]), Err(Refusal::Rows));
     assert_eq!(controller.close(16), Err(Refusal::Unknown));
