@@ -20,12 +20,12 @@ pub struct HuskReceiver(raw::Receiver);
 
 /// The reference's setting, for the proved version.
 pub fn setting_in(s: Setting) -> raw::Setting {
-    raw::Setting { mode: s.mode, session: s.session, limit: s.limit }
+    raw::Setting { mode: s.mode, layout: s.layout, session: s.session, limit: s.limit }
 }
 
 /// The proved version's setting, for the reference.
 pub fn setting_out(s: raw::Setting) -> Setting {
-    Setting { mode: s.mode, session: s.session, limit: s.limit }
+    Setting { mode: s.mode, layout: s.layout, session: s.session, limit: s.limit }
 }
 
 fn key_in(k: RawKey) -> raw::Key {
@@ -124,11 +124,11 @@ impl Version for Husk {
 
     /// The boundary has no call for a nonce alone: a sender at that number builds with it. The largest
     /// number is never usable, so no call makes its nonce and there is nothing to compare.
-    fn nonce(iv: &Iv, number: u64) -> Nonce {
+    fn nonce(layout: u8, iv: &Iv, number: u64) -> Nonce {
         if number == u64::MAX {
-            return reference::memory::nonce(iv, number);
+            return reference::memory::nonce(layout, iv, number);
         }
-        let setting = raw::Setting::new(0, 0, u64::MAX);
+        let setting = raw::Setting { layout, ..raw::Setting::new(0, 0, u64::MAX) };
         let sender = raw::Sender { setting, count: 0, next: number, iv: *iv };
         sender.build(&[], &[], &mut [0; 24]).nonce
     }

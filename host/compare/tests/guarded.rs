@@ -1,9 +1,10 @@
 //! No call reads or writes a byte beyond its slices: each buffer ends right before, or begins right behind,
 //! a page that may not be touched, so a stray access ends the test.
 use compare::table::words;
-use compare::Husk;
+use compare::{setting_in, Husk};
 use husk::raw;
-use reference::random::{any_receiver, any_sender, any_table, receiver_call, sender_call, ReceiverCall, Rng, SenderCall};
+use reference::random::{any_receiver, any_sender, any_setting, any_table};
+use reference::random::{receiver_call, sender_call, ReceiverCall, Rng, SenderCall};
 use reference::version::{ReceiverCalls, SenderCalls, Version};
 use std::ffi::c_void;
 
@@ -109,7 +110,7 @@ fn no_call_strays_from_its_table() {
         table.change_receiver(row, rng.iv());
         table.change_sender(row, rng.iv());
         table.drop_old(row);
-        table.open(raw::Setting::new(1, rng.word() as u32, 9), rng.iv(), rng.iv());
+        table.open(setting_in(any_setting(&mut rng)), rng.iv(), rng.iv());
         table.close(row);
     }
 }

@@ -1,6 +1,6 @@
 //! Real cipher text: what either version builds and the cipher seals, both read back alike, in both modes
-//! and with both ciphers, over losses, repeats, damage, key changes with late records, and drops. Whatever
-//! is handed out was sent, under its key and number, and is handed out once.
+//! and layouts and with both ciphers, over losses, repeats, damage, key changes with late records, and
+//! drops. Whatever is handed out was sent, under its key and number, and is handed out once.
 use cipher::{Aead, Suite};
 use compare::Husk;
 use reference::random::Rng;
@@ -35,10 +35,10 @@ impl Keys {
 }
 
 /// Builds and seals one record with a sender of either version.
-fn send<S: SenderCalls>(sender: &mut S, keys: &Keys, mode: u8, rng: &mut Rng) -> Option<Sent> {
+fn send<S: SenderCalls>(sender: &mut S, keys: &Keys, rng: &mut Rng) -> Option<Sent> {
     let app_len = rng.below(40) as usize;
     let app = rng.bytes(app_len);
-    let random_len = if mode == 1 { rng.below(6) as usize } else { 0 };
+    let random_len = if sender.raw().setting.mode == 1 { rng.below(6) as usize } else { 0 };
     let random = rng.bytes(random_len);
     let mut out = vec![0u8; 96];
     let count = sender.raw().count;
@@ -72,10 +72,10 @@ fn receive<V: Version>(receiver: &mut V::Receiver, keys: &Keys, rec: &[u8], slot
 
 /// One run: a sender of version `S`, receivers of both versions side by side. Answers how many records
 /// were handed out.
-fn run<S: Version>(suite: Suite, mode: u8, seed: u64) -> usize {
+fn run<S: Version>(suite: Suite, setting: Setting, seed: u64) -> usize {
     let mut rng = Rng::new(seed);
     let keys = Keys { suite, seed };
-    let setting = Setting { mode, session: rng.word() as u32, limit: 1 << 20 };
+    let setting = Setting { session: rng.word() as u32, ..setting };
     let mut sender = S::Sender::open(setting, keys.iv(0)).1;
     let mut ours = <Husk as Version>::Receiver::open(setting, keys.iv(0)).1;
     let mut theirs = <Memory as Version>::Receiver::open(setting, keys.iv(0)).1;
@@ -88,7 +88,7 @@ fn run<S: Version>(suite: Suite, mode: u8, seed: u64) -> usize {
                 assert_eq!((sender.change_key(iv), ours.change_key(iv), theirs.change_key(iv)), (0, 0, 0));
             }
             2..=6 => {
-                let record = send(&mut sender, &keys, mode, &mut rng).unwrap();
+                let record = send(&mut sender, &keys, &mut rng).unwrap();
                 sent.insert((record.count, record.number), record.app.clone());
                 mail.push(record);
             }
@@ -114,16 +114,22 @@ fn run<S: Version>(suite: Suite, mode: u8, seed: u64) -> usize {
     handed.len()
 }
 
+/// Both modes, in both layouts.
+fn settings() -> impl Iterator<Item = Setting> {
+    let modes = [0, 1].map(|mode| Setting::new(mode, 0, 1 << 20));
+    modes.into_iter().flat_map(|setting| [setting, Setting { layout: 1, ..setting }])
+}
+
 #[test]
 fn sealed_records_are_read_back_alike_and_once() {
     let mut handed = 0;
     for seed in 0..6 {
-        for mode in [0, 1] {
+        for setting in settings() {
             for suite in [Suite::Aes256Gcm, Suite::ChaCha20Poly1305] {
-                handed += run::<Husk>(suite, mode, seed);
-                handed += run::<Memory>(suite, mode, seed);
+                handed += run::<Husk>(suite, setting, seed);
+                handed += run::<Memory>(suite, setting, seed);
             }
         }
     }
-    assert!(handed > 2_000, "only {} records were handed out", handed);
+    assert!(handed > 4_000, "only {} records were handed out", handed);
 }

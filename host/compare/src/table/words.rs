@@ -1,5 +1,5 @@
-//! A table's rows as the words that they lie in: one word for each number, in the order of
-//! crates/rows/specs/Ends.antt.
+//! A table's rows as the words that they lie in, in the order of crates/rows/specs/Ends.antt: one word for
+//! each number, but mode and layout share one.
 use husk::raw;
 use reference::random::Rng;
 use reference::{Iv, RawKey, RawReceiver, RawRow, RawSender, RawTable, Setting};
@@ -8,7 +8,7 @@ use reference::{Iv, RawKey, RawReceiver, RawRow, RawSender, RawTable, Setting};
 const SENDER: usize = 13;
 
 /// How many bits of each word are its number's; those above are read by no call.
-const BITS: [u32; 20] = [8, 32, 64, 32, 64, 32, 64, 64, 1, 64, 32, 64, 64, 8, 32, 64, 32, 64, 64, 32];
+const BITS: [u32; 20] = [16, 32, 64, 32, 64, 32, 64, 64, 1, 64, 32, 64, 64, 16, 32, 64, 32, 64, 64, 32];
 
 fn iv_words(iv: Iv) -> [u64; 2] {
     let mut halves = [[0; 8]; 2];
@@ -24,8 +24,13 @@ fn iv_of(words: &[u64]) -> Iv {
     iv
 }
 
+fn setting_words(s: Setting) -> [u64; 3] {
+    [u64::from(s.mode) | u64::from(s.layout) << 8, s.session.into(), s.limit]
+}
+
 fn setting_of(words: &[u64]) -> Setting {
-    Setting { mode: words[0] as u8, session: words[1] as u32, limit: words[2] }
+    let [mode, layout, ..] = words[0].to_le_bytes();
+    Setting { mode, layout, session: words[1] as u32, limit: words[2] }
 }
 
 fn key_of(words: &[u64]) -> RawKey {
@@ -34,13 +39,15 @@ fn key_of(words: &[u64]) -> RawKey {
 
 fn row_words(row: &RawRow) -> [u64; 20] {
     let (r, s) = (&row.receiver, &row.sender);
+    let [kind, session, limit] = setting_words(r.setting);
+    let [send_kind, send_session, send_limit] = setting_words(s.setting);
     let [first, last] = iv_words(r.current.iv);
     let [old_first, old_last] = iv_words(r.old.iv);
     let [send_first, send_last] = iv_words(s.iv);
     [
-        r.setting.mode.into(),
-        r.setting.session.into(),
-        r.setting.limit,
+        kind,
+        session,
+        limit,
         r.count.into(),
         first,
         last,
@@ -51,9 +58,9 @@ fn row_words(row: &RawRow) -> [u64; 20] {
         old_last,
         r.old.next,
         r.old.marks,
-        s.setting.mode.into(),
-        s.setting.session.into(),
-        s.setting.limit,
+        send_kind,
+        send_session,
+        send_limit,
         s.count.into(),
         s.next,
         send_first,
