@@ -1,73 +1,24 @@
 //! Real cipher text: what either version builds and the cipher seals, both read back alike, in both modes
 //! and layouts and with both ciphers, over losses, repeats, damage, key changes with late records, and
 //! drops. Whatever is handed out was sent, under its key and number, and is handed out once.
-use cipher::{Aead, Suite};
+mod sealing;
+
+use cipher::Suite;
 use compare::Husk;
 use reference::random::Rng;
 use reference::version::{Memory, ReceiverCalls, SenderCalls, Version};
 use reference::Setting;
+use sealing::{receive, send, Keys, Sent};
 use std::collections::{HashMap, HashSet};
 
-/// A sealed record on its way, with what the test knows of it.
-#[derive(Clone)]
-struct Sent {
-    bytes: Vec<u8>,
-    count: u32,
-    number: u64,
-    app: Vec<u8>,
-}
-
-/// The keys of a run, by key count: each cipher key is a new one.
-struct Keys {
-    suite: Suite,
-    seed: u64,
-}
-
-impl Keys {
-    fn iv(&self, count: u32) -> [u8; 12] {
-        Rng::new(self.seed ^ (u64::from(count) << 32) ^ 0xabcd).iv()
+/// One of the last records that were sent, damaged one time in five.
+fn arrived(mail: &[Sent], rng: &mut Rng) -> Sent {
+    let mut record = mail[mail.len() - 1 - rng.below(mail.len().min(90) as u64) as usize].clone();
+    if rng.one_in(5) {
+        let place = rng.below(record.bytes.len() as u64) as usize;
+        record.bytes[place] ^= 1 << rng.below(8);
     }
-
-    fn cipher(&self, count: u32) -> Aead {
-        let bytes = Rng::new(self.seed ^ (u64::from(count) << 32)).bytes(32);
-        Aead::new(self.suite, &bytes.try_into().unwrap())
-    }
-}
-
-/// Builds and seals one record with a sender of either version.
-fn send<S: SenderCalls>(sender: &mut S, keys: &Keys, rng: &mut Rng) -> Option<Sent> {
-    let app_len = rng.below(40) as usize;
-    let app = rng.bytes(app_len);
-    let random_len = if sender.raw().setting.mode == 1 { rng.below(6) as usize } else { 0 };
-    let random = rng.bytes(random_len);
-    let mut out = vec![0u8; 96];
-    let count = sender.raw().count;
-    let built = sender.build(&app, &random, &mut out);
-    if built.answer != 0 {
-        return None;
-    }
-    let (assoc, text, total) = (built.assoc as usize, built.text as usize, built.total as usize);
-    let (front, rest) = out.split_at_mut(assoc);
-    let tag = keys.cipher(count).seal(&built.nonce, front, &mut rest[..text - assoc]);
-    rest[text - assoc..total - assoc].copy_from_slice(&tag);
-    out.truncate(total);
-    Some(Sent { bytes: out, count, number: built.number, app })
-}
-
-/// Offers, runs the cipher and settles; answers the number of Settle (or of Offer) and the data.
-fn receive<V: Version>(receiver: &mut V::Receiver, keys: &Keys, rec: &[u8], slot: u8) -> (u8, u32, u64, Vec<u8>) {
-    let offered = receiver.offer(rec, slot);
-    if offered.answer != 0 {
-        return (offered.answer, 0, 0, Vec::new());
-    }
-    let mode = receiver.raw().setting.mode;
-    let (assoc, text) = (offered.assoc as usize, offered.text as usize);
-    let mut plain = rec[assoc..text].to_vec();
-    let tag = rec[text..].try_into().unwrap();
-    let yes = keys.cipher(offered.count).open(&offered.nonce, &rec[..assoc], &mut plain, &tag);
-    let settled = receiver.settle(rec, slot, offered.count, offered.number, yes, &plain);
-    let data = V::view(mode, settled.place, settled.length, rec, &plain).to_vec();
-    (settled.answer, offered.count, offered.number, data)
+    record
 }
 
 /// One run: a sender of version `S`, receivers of both versions side by side. Answers how many records
@@ -94,11 +45,7 @@ fn run<S: Version>(suite: Suite, setting: Setting, seed: u64) -> usize {
             }
             _ if mail.is_empty() => {}
             _ => {
-                let mut record = mail[mail.len() - 1 - rng.below(mail.len().min(90) as u64) as usize].clone();
-                if rng.one_in(5) {
-                    let place = rng.below(record.bytes.len() as u64) as usize;
-                    record.bytes[place] ^= 1 << rng.below(8);
-                }
+                let record = arrived(&mail, &mut rng);
                 let slot = u8::from(record.count != ours.raw().count);
                 let answer = receive::<Husk>(&mut ours, &keys, &record.bytes, slot);
                 assert_eq!(answer, receive::<Memory>(&mut theirs, &keys, &record.bytes, slot));

@@ -1,0 +1,66 @@
+//! What the tests on real cipher text share: keys, and a record's way through sender, cipher and receiver.
+use cipher::{Aead, Suite};
+use reference::random::Rng;
+use reference::version::{ReceiverCalls, SenderCalls, Version};
+
+/// A sealed record on its way, with what the test knows of it.
+#[derive(Clone)]
+pub struct Sent {
+    pub bytes: Vec<u8>,
+    pub count: u32,
+    pub number: u64,
+    pub app: Vec<u8>,
+}
+
+/// The keys of a run, by key count: each cipher key is a new one.
+pub struct Keys {
+    pub suite: Suite,
+    pub seed: u64,
+}
+
+impl Keys {
+    pub fn iv(&self, count: u32) -> [u8; 12] {
+        Rng::new(self.seed ^ (u64::from(count) << 32) ^ 0xabcd).iv()
+    }
+
+    fn cipher(&self, count: u32) -> Aead {
+        let bytes = Rng::new(self.seed ^ (u64::from(count) << 32)).bytes(32);
+        Aead::new(self.suite, &bytes.try_into().unwrap())
+    }
+}
+
+/// Builds and seals one record with a sender of either version.
+pub fn send<S: SenderCalls>(sender: &mut S, keys: &Keys, rng: &mut Rng) -> Option<Sent> {
+    let app_len = rng.below(40) as usize;
+    let app = rng.bytes(app_len);
+    let random_len = if sender.raw().setting.mode == 1 { rng.below(6) as usize } else { 0 };
+    let random = rng.bytes(random_len);
+    let mut out = vec![0u8; 96];
+    let count = sender.raw().count;
+    let built = sender.build(&app, &random, &mut out);
+    if built.answer != 0 {
+        return None;
+    }
+    let (assoc, text, total) = (built.assoc as usize, built.text as usize, built.total as usize);
+    let (front, rest) = out.split_at_mut(assoc);
+    let tag = keys.cipher(count).seal(&built.nonce, front, &mut rest[..text - assoc]);
+    rest[text - assoc..total - assoc].copy_from_slice(&tag);
+    out.truncate(total);
+    Some(Sent { bytes: out, count, number: built.number, app })
+}
+
+/// Offers, runs the cipher and settles; answers the number of Settle (or of Offer) and the data.
+pub fn receive<V: Version>(receiver: &mut V::Receiver, keys: &Keys, rec: &[u8], slot: u8) -> (u8, u32, u64, Vec<u8>) {
+    let offered = receiver.offer(rec, slot);
+    if offered.answer != 0 {
+        return (offered.answer, 0, 0, Vec::new());
+    }
+    let mode = receiver.raw().setting.mode;
+    let (assoc, text) = (offered.assoc as usize, offered.text as usize);
+    let mut plain = rec[assoc..text].to_vec();
+    let tag = rec[text..].try_into().unwrap();
+    let yes = keys.cipher(offered.count).open(&offered.nonce, &rec[..assoc], &mut plain, &tag);
+    let settled = receiver.settle(rec, slot, offered.count, offered.number, yes, &plain);
+    let data = V::view(mode, settled.place, settled.length, rec, &plain).to_vec();
+    (settled.answer, offered.count, offered.number, data)
+}
