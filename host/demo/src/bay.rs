@@ -55,7 +55,10 @@ impl Bay {
     /// A board and its row at the controller, which have a Session ID, keys and IVs of their own.
     fn meet(&mut self, plan: Plan, back: &Secret) -> Result<(), Refusal> {
         let session = u32::from_le_bytes(self.rng.bytes());
-        let setting = Setting::new(plan.mode, session, u64::MAX);
+        let setting = Setting {
+            layout: plan.layout,
+            ..Setting::new(plan.mode, session, u64::MAX)
+        };
         let secret = Secret::agree(&mut self.rng);
         self.places.push(Place {
             plan,

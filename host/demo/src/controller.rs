@@ -30,7 +30,7 @@ impl Controller {
         send: &Secret,
     ) -> Result<usize, Refusal> {
         let row = self.table.open(setting, receive.iv(), send.iv())?;
-        let element = Element::new(setting.session, row, receive);
+        let element = Element::new(setting, row, receive);
         self.elements.push(element);
         Ok(self.elements.len() - 1)
     }

@@ -1,7 +1,7 @@
 //! What the controller has for one element beside its row of the table.
 use crate::{Reading, Secret};
 use cipher::Aead;
-use husk::{Controller as Table, Refusal, CURRENT, OLD};
+use husk::{Controller as Table, Refusal, Setting, CURRENT, OLD};
 
 /// What became of an element's deliveries.
 #[derive(Clone, Copy, Debug, Default, PartialEq, Eq)]
@@ -17,7 +17,7 @@ pub struct Tally {
 /// An element: its row in the table, and the keys for the cipher. Each key stands beside the slot that the
 /// row has for it, and changes with it.
 pub struct Element {
-    session: u32,
+    setting: Setting,
     row: u8,
     current: Aead,
     old: Option<Aead>,
@@ -27,10 +27,10 @@ pub struct Element {
 }
 
 impl Element {
-    /// The element of a row that was opened with this Session ID and this secret. It is dark.
-    pub(crate) fn new(session: u32, row: u8, secret: &Secret) -> Element {
+    /// The element of a row that was opened with this setting and this secret. It is dark.
+    pub(crate) fn new(setting: Setting, row: u8, secret: &Secret) -> Element {
         Element {
-            session,
+            setting,
             row,
             current: secret.aead(),
             old: None,
@@ -121,7 +121,12 @@ impl Element {
 
     /// Its Session ID.
     pub fn session(&self) -> u32 {
-        self.session
+        self.setting.session
+    }
+
+    /// The layout of its nonces.
+    pub fn layout(&self) -> u8 {
+        self.setting.layout
     }
 
     /// Its row in the controller's table.

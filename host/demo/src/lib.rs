@@ -1,9 +1,9 @@
 //! A bay of sixteen boards over a simulated bus, with real records under AES-256-GCM.
 //!
 //! Nine boards hang, and the bridge goes on delivering their last record, whose MAC is good. The
-//! controller hands each record out once: the nine go dark. Of the others one passes the 16-bit turn of
-//! its numbers, one changes its key while records of the old one are late, one is fed forged records,
-//! and some have a bus that loses and reorders.
+//! controller hands each record out once: the nine go dark. Of the others one is a second maker's, with
+//! another layout of nonces, one passes the 16-bit turn of its numbers, one changes its key while records
+//! of the old one are late, one is fed forged records, and some have a bus that loses and reorders.
 //!
 //! [`Board`], [`Bridge`] and [`Bus`] are the simulated side. [`Controller`] and [`Element`] are what a
 //! bay controller would have: one table with a row for each board, and the cipher between its two calls.

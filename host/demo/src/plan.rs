@@ -1,7 +1,7 @@
 //! What happens to each element. A tick is a second: every board sends one record in it.
 use crate::bus::{Fate, Forgery};
 use crate::ELEMENTS;
-use husk::{AUTHENTICATED, ENCRYPTED};
+use husk::{AUTHENTICATED, ENCRYPTED, LAYOUT_BIG, LAYOUT_LITTLE};
 
 /// For how many ticks after a key change the old key is held: DSP0276's KT1, ten seconds.
 pub const KT1: u32 = 10;
@@ -14,6 +14,8 @@ const BEFORE: u64 = 65_480;
 pub struct Plan {
     /// The mode of its channel.
     pub mode: u8,
+    /// How its board's maker lays out nonces.
+    pub layout: u8,
     /// How many records its board sent before the first tick.
     pub before: u64,
     /// The tick at which its board hangs.
@@ -26,6 +28,7 @@ pub struct Plan {
 
 const WELL: Plan = Plan {
     mode: ENCRYPTED,
+    layout: LAYOUT_LITTLE,
     before: 0,
     hangs: None,
     changes_key: None,
@@ -41,7 +44,11 @@ const fn hangs(tick: u32) -> Plan {
 
 /// The sixteen elements. All nine boards that hang do so in the second period.
 pub const PLANS: [Plan; ELEMENTS] = [
-    WELL, // element 0
+    // 0: the second maker's board.
+    Plan {
+        layout: LAYOUT_BIG,
+        ..WELL
+    },
     hangs(44),
     hangs(47),
     // 3: its numbers pass the 16-bit turn.

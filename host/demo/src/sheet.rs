@@ -1,6 +1,6 @@
 //! The docking sheet.
 use crate::{Controller, Element, Tally};
-use husk::Refusal;
+use husk::{Refusal, LAYOUT_BIG};
 use std::fmt;
 
 /// One element's row.
@@ -8,6 +8,8 @@ use std::fmt;
 pub struct Row {
     /// Its Session ID.
     pub session: u32,
+    /// The layout of its nonces.
+    pub layout: u8,
     /// What became of its deliveries.
     pub tally: Tally,
     /// The gap count of its current key.
@@ -20,6 +22,7 @@ impl Row {
     fn of(controller: &Controller, element: &Element) -> Result<Row, Refusal> {
         Ok(Row {
             session: element.session(),
+            layout: element.layout(),
             tally: element.tally(),
             gaps: controller.gaps(element)?,
             lit: element.is_lit(),
@@ -53,10 +56,28 @@ impl Sheet {
 
     /// The elements that are dark.
     pub fn dark(&self) -> Vec<usize> {
+        self.those(|row| !row.lit)
+    }
+
+    /// The elements whose board is the second maker's: their nonces have the other layout.
+    pub fn second_maker(&self) -> Vec<usize> {
+        self.those(|row| row.layout == LAYOUT_BIG)
+    }
+
+    fn those(&self, such: fn(&Row) -> bool) -> Vec<usize> {
         (0..self.rows.len())
-            .filter(|element| !self.rows[*element].lit)
+            .filter(|element| such(&self.rows[*element]))
             .collect()
     }
+}
+
+/// Elements by number, in a line.
+fn list(elements: &[usize]) -> String {
+    let numbers: Vec<String> = elements.iter().map(usize::to_string).collect();
+    if numbers.is_empty() {
+        return "none".to_string();
+    }
+    numbers.join(" ")
 }
 
 impl fmt::Display for Sheet {
@@ -75,11 +96,7 @@ impl fmt::Display for Sheet {
                 "{element:7}  {session:08x}  {handed:6}  {repeats:7}  {others:6}  {gaps:4}  {light}"
             )?;
         }
-        let dark: Vec<String> = self.dark().iter().map(usize::to_string).collect();
-        if dark.is_empty() {
-            writeln!(f, "dark: none")
-        } else {
-            writeln!(f, "dark: {}", dark.join(" "))
-        }
+        writeln!(f, "second maker: {}", list(&self.second_maker()))?;
+        writeln!(f, "dark: {}", list(&self.dark()))
     }
 }

@@ -1,6 +1,6 @@
 //! The story, period by period, and each part of it for its own reason.
 use demo::{Bay, Board, Controller, Rng, Row, Secret, Sheet, Tally, ELEMENTS, PERIODS, PLANS};
-use husk::{Offered, Refusal, Setting, CURRENT, OLD};
+use husk::{Offered, Refusal, Setting, CURRENT, LAYOUT_BIG, LAYOUT_LITTLE, OLD};
 
 fn hung() -> Vec<usize> {
     (0..ELEMENTS)
@@ -41,6 +41,7 @@ fn the_nine_go_dark_and_no_other() {
             assert!(after.tally.repeats > before.tally.repeats);
         }
     }
+    the_second_maker_is_read(&bay, last);
     the_turn_is_passed(&bay, last);
     the_key_is_changed(&bay, last);
     forged_records_are_counted(last);
@@ -65,6 +66,18 @@ fn next_is(bay: &Bay, element: usize, count: u32, next: u64) {
     assert_eq!(probe(bay, element, next - 1), Err(Refusal::Repeat));
     let offered = probe(bay, element, next).unwrap();
     assert_eq!((offered.count, offered.number), (count, next));
+}
+
+/// Element 0: its board puts the number's lowest byte last, and all its records are handed out.
+fn the_second_maker_is_read(bay: &Bay, rows: &[Row]) {
+    assert_eq!(Sheet::of(bay.controller()).unwrap().second_maker(), vec![0]);
+    let tally = Tally {
+        handed: 120,
+        ..Tally::default()
+    };
+    assert_eq!((rows[0].tally, rows[0].layout), (tally, LAYOUT_BIG));
+    let [even, odd] = [120, 121].map(|number| probe(bay, 0, number).unwrap().nonce);
+    assert_eq!((&even[..11], even[11]), (&odd[..11], odd[11] ^ 1));
 }
 
 /// Element 3: of 65,480 records every 50th arrived; of the 120 after them 7 are lost, and the last one is
@@ -126,8 +139,17 @@ fn every_row_is_its_own(controller: &Controller) {
 fn what_is_handed_out_is_what_was_measured() {
     let mut rng = Rng::new(1);
     let mut controller = Controller::new();
-    for mode in [husk::AUTHENTICATED, husk::ENCRYPTED] {
-        let setting = Setting::new(mode, 0x1122_3344 + u32::from(mode), 50);
+    let kinds = [
+        (husk::AUTHENTICATED, LAYOUT_LITTLE),
+        (husk::AUTHENTICATED, LAYOUT_BIG),
+        (husk::ENCRYPTED, LAYOUT_LITTLE),
+        (husk::ENCRYPTED, LAYOUT_BIG),
+    ];
+    for (session, (mode, layout)) in (0x1122_3344..).zip(kinds) {
+        let setting = Setting {
+            layout,
+            ..Setting::new(mode, session, 50)
+        };
         let [secret, back] = [Secret::agree(&mut rng), Secret::agree(&mut rng)];
         let mut board = Board::new(setting, &secret, rng.split()).unwrap();
         let place = controller.open(setting, &secret, &back).unwrap();
