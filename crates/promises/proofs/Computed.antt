@@ -2,7 +2,6 @@
 -- Assumes nothing.
 use Rattle.channel.specs.Receiver.{answerTo, stateAfter}
 use Rattle.octets.specs.Parts.{part}
-use Rattle.record.specs.Setting.{sameSetting}
 use Rattle.record.specs.View.{viewOf}
 use Rattle.promises.specs.Run.{handedBy}
 use Rattle.promises.specs.World.{sentOf, at, next, handedIn, callsOf}
@@ -17,7 +16,7 @@ worldOpen = tt
 
 -- the cipher, and the tests of the assumptions
 unfoldable pub toyOpen : Unit {0}
-unfolding keyOf weigh tag masked eqList toy front wire forged sameSetting sameAnswer isSent isIn readyTest sealTest callTest runTest
+unfolding keyOf weigh tag masked eqList toy front wire forged sameAnswer isSent isIn readyTest sealTest callTest runTest
 toyOpen = tt
 
 unfoldable pub runs : Unit {0}

@@ -12,12 +12,7 @@ use Rattle.numbers.specs.Number.{whole, nearest, count, gapCount, numberRows}
 use Rattle.numbers.specs.Window.{marked, markNext, markWord, sound}
 use Rattle.numbers.specs.Word.{bit, setBit, wordOf, marksOf}
 use Rattle.octets.specs.Fields.{field, blank}
-use Rattle.record.specs.Header.{sessionOf, partialOf, lengthOf, numberOf, headOf}
-use Rattle.record.specs.Nonce.{nonceOf, spread}
-use Rattle.record.specs.Read.{recordRows, placeRows}
-use Rattle.record.specs.Setting.{numberFirst, authOnly, badSetting, openRows, windowWidth}
-use Rattle.record.specs.Shape.{headLen, macLen, innerLen, mostLength, least, totalOf, startOf, textEnd, assocEnd, plainLen, dataPlace, dataLen, innerBad}
-use Rattle.record.specs.Write.{bodyLen, assocEndFor, formRows, roomRows, bodyOf, frontOf}
+use Rattle.record.proofs.Computing.{recordOpen}
 use Rattle.promises.specs.Run.{afterBy, answersBy, markedBy, allMarked}
 use Rattle.promises.specs.Plain.{oldOf, plainLook, rememberFirst, plainChange}
 use Rattle.promises.specs.SendRun.{sending, usedBy, under, from}
@@ -32,15 +27,10 @@ unfoldable pub windowsOpen : Unit {0}
 unfolding widthOf soundWindow after windowOf seenBy isEmpty marked markNext markWord sound
 windowsOpen = tt
 
--- settings, and the checks of a record
+-- settings, and the parts of a record, read and written
 unfoldable pub readingOpen : Unit {0}
-unfolding field blank sessionOf partialOf lengthOf numberOf recordRows placeRows authOnly numberFirst badSetting openRows windowWidth headLen macLen innerLen least totalOf
+unfolding field blank recordOpen
 readingOpen = tt
-
--- the parts of a record, read and written
-unfoldable pub partsOpen : Unit {0}
-unfolding startOf textEnd assocEnd plainLen dataPlace dataLen innerBad nonceOf spread headOf mostLength bodyLen assocEndFor formRows roomRows bodyOf frontOf
-partsOpen = tt
 
 -- the receiver
 unfoldable pub receiverOpen : Unit {0}
@@ -59,5 +49,5 @@ runsOpen = tt
 
 -- all of these
 unfoldable pub computing : Unit {0}
-unfolding numbersOpen windowsOpen readingOpen partsOpen receiverOpen senderOpen runsOpen
+unfolding numbersOpen windowsOpen readingOpen receiverOpen senderOpen runsOpen
 computing = tt

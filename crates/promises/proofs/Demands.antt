@@ -23,6 +23,7 @@ use Rattle.mctp.specs.Message.{wrapRecord, readMessage, recordOf}
 use Rattle.numbers.specs.Memory.{Below}
 use Rattle.record.specs.Nonce.{zeros12}
 use Rattle.record.specs.Shape.{macLen}
+use Rattle.record.specs.Reasons.{BadSetting}
 use Rattle.record.specs.View.{viewOf}
 use Rattle.record.specs.declared.setting.Setting.{Setting}
 use Rattle.promises.specs.Distinct.{Distinct}
@@ -202,7 +203,7 @@ zeros-for-ever = Opening.zeros-for-ever
 -- and that passes its checks.
 
 -- The numbers that page 01 gives to the names of the shape.
-pub page-numbers : (s : Setting) → PageNumbers s
+pub page-numbers : (s : Setting) → (BadSetting s → ⊥) → PageNumbers s
 page-numbers = Words.page-numbers
 
 -- The layout: page 01's table, offset by offset, in both modes.
@@ -216,7 +217,7 @@ pub unwritten : (s : Sender) (app random out : List ℕ)
 unwritten = Builds.unwritten
 
 -- The way through. The record is what Build left in its buffer up to the end of the associated data, any text of the text's length sealed in
--- its place, and any 16 bytes; with its own text in place it is Build's buffer and those bytes.
+-- its place, and any bytes for the MAC, as many as the setting says; with its own text in place it is Build's buffer and those bytes.
 pub read-back : (s : Sender) (app random out sealed mac : List ℕ) (r : Receiver) (slot : ℕ)
     → CanBuild s app random out → CanTake r slot s
     → length sealed ≡ builtOf s app random out .text - builtOf s app random out .assoc → length mac ≡ macLen (s .setting)

@@ -3,6 +3,7 @@
 use Prim.Native.Nat.{ℕ, _+_}
 use mathlib.Core.Path.{_≡_, ap, _∙_}
 use mathlib.Core.List.{List}
+use mathlib.Core.Logic.{inl}
 use native.Mathlib.Omega.{arith}
 use lib.ListN.{length, drop}
 use Rattle.channel.specs.Sender.{buildOut}
@@ -17,6 +18,7 @@ use Rattle.record.proofs.Page.{values}
 use Rattle.promises.specs.Laid.{Laid}
 use Rattle.promises.specs.Premises.{CanBuild}
 use Rattle.promises.specs.ReadBack.{builtOf}
+use Rattle.promises.proofs.Words.{page-numbers}
 use Rattle.promises.proofs.Builds.{build-passes, build-answers, buffer-is, unwritten}
 
 module _ (s : Sender) (app random out : List ℕ) (B : CanBuild s app random out) where
@@ -26,17 +28,18 @@ module _ (s : Sender) (app random out : List ℕ) (B : CanBuild s app random out
   text-clear : t .mode ≡ 0 → builtOf s app random out .text ≡ 8 + length app
   text-clear m =
       let v = values t in
-      ap (λ (b : Built). b .text) (build-answers s app random out B) ∙ omega (arith, v .header, v .mac, v .clear (clear-mode t m) (length app) (length random))
+      ap (λ (b : Built). b .text) (build-answers s app random out B) ∙ omega (arith, v .header, v .clear (clear-mode t m) (length app) (length random))
 
   text-sealed : t .mode ≡ 1 → builtOf s app random out .text ≡ 10 + length app + length random
   text-sealed m =
       let v = values t in
-      ap (λ (b : Built). b .text) (build-answers s app random out B) ∙ omega (arith, v .header, v .mac, v .sealed (sealed-mode t m) (length app) (length random))
+      ap (λ (b : Built). b .text) (build-answers s app random out B) ∙ omega (arith, v .header, v .sealed (sealed-mode t m) (length app) (length random))
 
   -- page 01's table holds of Build's buffer at exit
   pub laid : Laid t (s .next) app random out (buildOut s app random out)
   laid =
       let v = values t in
+      let n = page-numbers t (λ x. B .state (inl x)) in
       let x = buildOut s app random out in
       let y = drop (length (frontOf t (s .next) app random)) out in
       let e = buffer-is s app random out (build-passes s app random out B) in
@@ -44,8 +47,8 @@ module _ (s : Sender) (app random out : List ℕ) (B : CanBuild s app random out
       record {
         session = session-row t (s .next) app random x y e (B .declared .session);
         low = low-row t (s .next) app random x y e;
-        len-clear = λ m. len ∙ v .clear (clear-mode t m) (length app) (length random);
-        len-sealed = λ m. len ∙ v .sealed (sealed-mode t m) (length app) (length random);
+        len-clear = λ m. len ∙ n .clear m (length app) (length random);
+        len-sealed = λ m. len ∙ n .sealed m (length app) (length random);
         inner = λ m. rw (v .header, v .inner) at (inner-row t (s .next) app random x y e (sealed-mode t m) (B .size));
         data-clear = λ m. rw (v .header) at (data-clear-row t (s .next) app random x y e (clear-mode t m));
         data-sealed = λ m. rw (v .header, v .inner) at (data-sealed-row t (s .next) app random x y e (sealed-mode t m));

@@ -1,6 +1,7 @@
 -- Page 01's words in demand 2's premises: a state that is not State passes the test, and the names have page 01's numbers.
 -- Assumes nothing.
 use mathlib.Core.Bool.{Bool, true, false, not, _&&_, _||_}
+use Prim.Native.Nat.{ℕ, _+_}
 use mathlib.Core.Logic.{inl, inr}
 use mathlib.Core.Path.{_≡_, refl, ap, _∙_}
 use Rattle.answers.proofs.Tests.{true-not-false, tells-true, tells-eq, tells-and}
@@ -18,10 +19,10 @@ use Rattle.numbers.specs.Contract.{windowOf, isEmpty}
 use Rattle.numbers.specs.Word.{wordOf, marksOf}
 use Rattle.octets.specs.Fields.{blank}
 use Rattle.record.proofs.Modes.{clear-mode, sealed-mode}
-use Rattle.record.proofs.Page.{values}
-use Rattle.record.proofs.Told.{open-told}
+use Rattle.record.proofs.Page.{values, mac-chosen}
+use Rattle.record.proofs.Told.{bad-setting}
 use Rattle.record.specs.Reasons.{BadSetting}
-use Rattle.record.specs.Setting.{badSetting, openRows, ruleOf}
+use Rattle.record.specs.Setting.{ruleOf}
 use Rattle.record.specs.declared.setting.Setting.{Setting}
 use Rattle.promises.specs.Premises.{PageNumbers}
 
@@ -46,10 +47,6 @@ zero-blank : isZeroKey zeroKey ≡ true
 unfolding isZeroKey blank isEmpty windowOf wordOf marksOf
 zero-blank = refl
 
-setting-told : (s : Setting) → Tells (badSetting s) (BadSetting s)
-unfolding openRows
-setting-told s = open-told s .0 .0
-
 -- no old key is held, but its fields are not all zero
 spare-key : (b : Bool) (k : Key) → ((b ≡ false) × (k ≡ zeroKey → ⊥) → ⊥) → (not b && not (isZeroKey k)) ≡ false
 spare-key true k h = refl
@@ -63,7 +60,7 @@ spare-key false k h = go (isZeroKey k) refl
 pub receiver-good : (r : Receiver) → (BadReceiver r → ⊥) → badReceiver r ≡ false
 unfolding badReceiver
 receiver-good r h =
-    neither (untold (setting-told (r .setting)) (λ x. h (inl x)))
+    neither (untold (bad-setting (r .setting)) (λ x. h (inl x)))
     (neither (untold (unsound-told (ruleOf (r .setting)) (r .current .window)) (λ x. h (inr (inl x))))
     (neither (untold (unsound-told (ruleOf (r .setting)) (r .old .window)) (λ x. h (inr (inr (inl x)))))
     (neither (spare-key (r .held) (r .old) (λ x. h (inr (inr (inr (inl x))))))
@@ -71,15 +68,17 @@ receiver-good r h =
 
 -- ---- page 01's numbers
 
--- the names of the shape have page 01's numbers
-pub page-numbers : (s : Setting) → PageNumbers s
-page-numbers s =
+-- in the setting of a channel the names of the shape have page 01's numbers
+pub page-numbers : (s : Setting) → (BadSetting s → ⊥) → PageNumbers s
+page-numbers s h =
     let v = values s in
+    let m = mac-chosen s (untold (bad-setting s) h) in
     record {
       most = v .most;
       head = v .header;
-      mac = v .mac;
+      mac = m .0;
+      macs = m .1;
       width = v .rule ∙ v .window;
-      clear = λ m. v .clear (clear-mode s m);
-      sealed = λ m. v .sealed (sealed-mode s m);
+      clear = λ k p q. v .clear (clear-mode s k) p q ∙ ap (λ (x : ℕ). p + x) (m .0);
+      sealed = λ k p q. v .sealed (sealed-mode s k) p q ∙ ap (λ (x : ℕ). 2 + p + q + x) (m .0);
     }

@@ -14,8 +14,8 @@ pub record Laid (s : Setting) (n : ℕ) (app random was out : List ℕ) : Type 0
   -- offset 4, 2 bytes: low 16 bits of the sequence number
   pub low : field out 4 2 ≡ n % 65536
   -- offset 6, 2 bytes: Length, the bytes that follow it
-  pub len-clear : s .mode ≡ 0 → field out 6 2 ≡ length app + 16
-  pub len-sealed : s .mode ≡ 1 → field out 6 2 ≡ 2 + length app + length random + 16
+  pub len-clear : s .mode ≡ 0 → field out 6 2 ≡ length app + s .mac
+  pub len-sealed : s .mode ≡ 1 → field out 6 2 ≡ 2 + length app + length random + s .mac
   -- offset 8, 2 bytes: application data length, mode 1 only
   pub inner : s .mode ≡ 1 → field out 8 2 ≡ length app
   -- offset 8 or 10: application data
@@ -23,6 +23,6 @@ pub record Laid (s : Setting) (n : ℕ) (app random was out : List ℕ) : Type 0
   pub data-sealed : s .mode ≡ 1 → take (length app) (drop 10 out) ≡ app
   -- then random data, mode 1 only
   pub random-next : s .mode ≡ 1 → take (length random) (drop (10 + length app) out) ≡ random
-  -- last, 16 bytes: MAC. Its bytes and all beyond the total stay unwritten
+  -- last the MAC, 16 bytes on page 01. Its bytes and all beyond the total stay unwritten
   pub unwritten-clear : s .mode ≡ 0 → drop (8 + length app) out ≡ drop (8 + length app) was
   pub unwritten-sealed : s .mode ≡ 1 → drop (10 + length app + length random) out ≡ drop (10 + length app + length random) was

@@ -57,11 +57,13 @@ pub record CanTake (r : Receiver) (slot : ℕ) (s : Sender) : Type 0 where
 
 -- ---- page 01's numbers
 
--- what the names above stand for: the largest Length, the lengths of header and MAC, the window's width, and Length in mode 0 and in mode 1
+-- what the names above stand for in the setting of a channel: the largest Length, the lengths of header and MAC, the window's width, and Length
+-- in mode 0 and in mode 1. Page 01's MAC of 16 bytes is one of the three.
 pub record PageNumbers (s : Setting) : Type 0 where
   pub most : mostLength s ≡ 65535
   pub head : headLen s ≡ 8
-  pub mac : macLen s ≡ 16
+  pub mac : macLen s ≡ s .mac
+  pub macs : (s .mac ≡ 8) ⊎ (s .mac ≡ 12) ⊎ (s .mac ≡ 16)
   pub width : widthOf (ruleOf s) ≡ 64
-  pub clear : s .mode ≡ 0 → (p q : ℕ) → lengthFor s p q ≡ p + 16
-  pub sealed : s .mode ≡ 1 → (p q : ℕ) → lengthFor s p q ≡ 2 + p + q + 16
+  pub clear : s .mode ≡ 0 → (p q : ℕ) → lengthFor s p q ≡ p + s .mac
+  pub sealed : s .mode ≡ 1 → (p q : ℕ) → lengthFor s p q ≡ 2 + p + q + s .mac

@@ -13,3 +13,4 @@ pub mod Distinct
 pub mod Limits
 pub mod OneAnswer
 pub mod Again
+pub mod Computing

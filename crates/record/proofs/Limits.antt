@@ -66,8 +66,8 @@ module _ (s : Setting) (p q : ℕ) where
       none zero h = refl
       none (suc k) h = absurd (h (λ e. omega arith))
 
-  -- the same in page 01's numbers
-  pub size-clear-page : authOnly s ≡ true → (formOf s p q .answer ≡ Refusal.Size) ↔ ((q ≡ 0) × (65519 < p))
+  -- the same in numbers: 65,519 where the MAC has 16 bytes
+  pub size-clear-page : authOnly s ≡ true → (formOf s p q .answer ≡ Refusal.Size) ↔ ((q ≡ 0) × (65535 - macLen s < p))
   size-clear-page a =
       let v = values s in
       let k = size-clear a in
@@ -79,8 +79,8 @@ module _ (s : Setting) (p q : ℕ) where
   size-sealed a =
       ((λ e. over-sealed a .0 (size-when .0 e .1)), (λ h. size-when .1 ((λ w. eqb-false _ _ a (w .0)), over-sealed a .1 h)))
 
-  -- the same in page 01's numbers
-  pub size-sealed-page : authOnly s ≡ false → (formOf s p q .answer ≡ Refusal.Size) ↔ (65517 < p + q)
+  -- the same in numbers: 65,517 where the MAC has 16 bytes
+  pub size-sealed-page : authOnly s ≡ false → (formOf s p q .answer ≡ Refusal.Size) ↔ (65533 - macLen s < p + q)
   size-sealed-page a =
       let v = values s in
       let k = size-sealed a in

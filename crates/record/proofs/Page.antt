@@ -1,18 +1,21 @@
 -- The values that page 01 gives to the names of the shape.
 -- Assumes nothing.
 use Prim.Native.Nat.{ℕ, _+_, _≤_}
-use mathlib.Core.Bool.{true, false}
+use mathlib.Core.Bool.{Bool, true, false}
+use lib.Dec.{eqb}
+use borrow.Author.Tests.{eqb-true, eqb-false}
+use mathlib.Core.Logic.{_⊎_, inl, inr}
 use mathlib.Core.Path.{_≡_, refl}
 use native.Mathlib.Omega.{arith}
 use Rattle.numbers.specs.Contract.{widthOf}
 use Rattle.record.specs.declared.setting.Setting.{Setting}
-use Rattle.record.specs.Setting.{authOnly, windowWidth, ruleOf}
+use Rattle.record.specs.Setting.{authOnly, badSetting, windowWidth, ruleOf}
 use Rattle.record.specs.Shape.{headLen, shortest, macLen, innerLen, mostLength, least}
 use Rattle.record.specs.Write.{bodyLen, lengthFor}
+use Rattle.record.proofs.Told.{bad-setting}
 
 pub record Values (s : Setting) : Type 0 where
   pub header : headLen s ≡ 8
-  pub mac : macLen s ≡ 16
   pub inner : innerLen s ≡ 2
   pub most : mostLength s ≡ 65535
   pub window : windowWidth s ≡ 64
@@ -21,17 +24,16 @@ pub record Values (s : Setting) : Type 0 where
   -- no header is shorter
   pub short : shortest ≤ headLen s
   -- the least Length in mode 0 and in mode 1
-  pub least-clear : authOnly s ≡ true → least s ≡ 16
-  pub least-sealed : authOnly s ≡ false → least s ≡ 18
+  pub least-clear : authOnly s ≡ true → least s ≡ macLen s
+  pub least-sealed : authOnly s ≡ false → least s ≡ 2 + macLen s
   -- Length in mode 0 and in mode 1, of p bytes of data and q random bytes
-  pub clear : authOnly s ≡ true → (p q : ℕ) → lengthFor s p q ≡ p + 16
-  pub sealed : authOnly s ≡ false → (p q : ℕ) → lengthFor s p q ≡ 2 + p + q + 16
+  pub clear : authOnly s ≡ true → (p q : ℕ) → lengthFor s p q ≡ p + macLen s
+  pub sealed : authOnly s ≡ false → (p q : ℕ) → lengthFor s p q ≡ 2 + p + q + macLen s
 
 pub values : (s : Setting) → Values s
-unfolding headLen shortest macLen innerLen mostLength least windowWidth widthOf bodyLen
+unfolding headLen shortest innerLen mostLength least windowWidth widthOf bodyLen
 values s = record {
   header = refl;
-  mac = refl;
   inner = refl;
   most = refl;
   window = refl;
@@ -42,3 +44,28 @@ values s = record {
   clear = λ a p q. rw a;
   sealed = λ a p q. rw a;
 }
+
+-- ---- the MAC's length
+
+-- it is never above 16
+pub mac-most : (s : Setting) → macLen s ≤ 16
+unfolding macLen
+mac-most s = omega arith
+
+-- that of page 01
+pub mac-page : (s : Setting) → s .mac ≡ 16 → macLen s ≡ 16
+unfolding macLen
+mac-page s h = omega arith
+
+-- of a channel it is what was chosen at open: 8, 12 or 16
+pub mac-chosen : (s : Setting) → badSetting s ≡ false → (macLen s ≡ s .mac) × ((s .mac ≡ 8) ⊎ (s .mac ≡ 12) ⊎ (s .mac ≡ 16))
+unfolding macLen
+mac-chosen s g = go (eqb (s .mac) 8) (eqb (s .mac) 12) (eqb (s .mac) 16) refl refl refl
+  where
+    go : (a b c : Bool) → eqb (s .mac) 8 ≡ a → eqb (s .mac) 12 ≡ b → eqb (s .mac) 16 ≡ c
+        → (macLen s ≡ s .mac) × ((s .mac ≡ 8) ⊎ (s .mac ≡ 12) ⊎ (s .mac ≡ 16))
+    go true b c p q r = let e : s .mac ≡ 8 = eqb-true _ _ p in (omega arith, inl e)
+    go false true c p q r = let e : s .mac ≡ 12 = eqb-true _ _ q in (omega arith, inr (inl e))
+    go false false true p q r = let e : s .mac ≡ 16 = eqb-true _ _ r in (omega arith, inr (inr e))
+    go false false false p q r =
+        absurd (bad-setting s .fails g (inl (inr ((eqb-false _ _ p, eqb-false _ _ q), eqb-false _ _ r))))

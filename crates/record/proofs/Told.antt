@@ -10,7 +10,7 @@ use Rattle.answers.specs.Reasons.{Tells, Told}
 use Rattle.answers.proofs.Reasons.{told-row}
 use Rattle.answers.proofs.Tests.{tells-lt, tells-eq, tells-not, tells-or, tells-and, tells-differ}
 use Rattle.record.specs.declared.setting.Setting.{Setting}
-use Rattle.record.specs.Setting.{authOnly, badSetting, openRows}
+use Rattle.record.specs.Setting.{authOnly, badMac, badSetting, openRows}
 use Rattle.record.specs.Header.{lengthOf}
 use Rattle.record.specs.Shape.{least, totalOf, innerBad}
 use Rattle.record.specs.Read.{recordRows}
@@ -19,8 +19,11 @@ use Rattle.record.specs.Reasons.{BadSetting, TooSmall, TooLong, openReas
 
 -- a setting that is none of a channel
 pub bad-setting : (s : Setting) → Tells (badSetting s) (BadSetting s)
-unfolding badSetting
-bad-setting s = tells-or (tells-or (tells-lt _ _) (tells-lt _ _)) (tells-eq _ _)
+unfolding badSetting badMac
+bad-setting s =
+    tells-or
+    (tells-or (tells-or (tells-lt _ _) (tells-lt _ _)) (tells-and (tells-and (tells-differ _ 8) (tells-differ _ 12)) (tells-differ _ 16)))
+    (tells-eq _ _)
 
 -- 2: what Open refuses
 pub open-told : (s : Setting) → Told (openRows s) (openReasons s)

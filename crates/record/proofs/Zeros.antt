@@ -8,11 +8,11 @@ use Rattle.answers.specs.Reasons.{Tells}
 use Rattle.answers.proofs.Table.{row-passed}
 use Rattle.answers.proofs.Tests.{true-not-false, tells-eq, tells-and}
 use Rattle.record.specs.declared.setting.Setting.{Setting}
-use Rattle.record.specs.Setting.{zeroSetting, sameSetting, isZeroSetting, badSetting, openRows}
+use Rattle.record.specs.Setting.{zeroSetting, sameSetting, isZeroSetting, badMac, badSetting, openRows}
 
 -- Open refuses them
 pub zeros-bad : badSetting zeroSetting ≡ true
-unfolding badSetting
+unfolding badSetting badMac
 zeros-bad = refl
 
 -- a setting that Open grants is not the zeros
@@ -25,12 +25,26 @@ pub same-setting : (s t : Setting) → Tells (sameSetting s t) (s ≡ t)
 unfolding sameSetting
 same-setting s t =
     let b =
-    tells-and (tells-and (tells-and (tells-eq (s .mode) (t .mode)) (tells-eq (s .layout) (t .layout))) (tells-eq (s .session) (t .session)))
+    tells-and
+    (tells-and
+    (tells-and (tells-and (tells-eq (s .mode) (t .mode)) (tells-eq (s .layout) (t .layout))) (tells-eq (s .mac) (t .mac)))
+    (tells-eq (s .session) (t .session)))
     (tells-eq (s .limit) (t .limit)) in
     record {
-      holds = λ e i. let z = b .holds e in record { mode = z .0 .0 .0 i; layout = z .0 .0 .1 i; session = z .0 .1 i; limit = z .1 i };
-      fails = λ e p. b .fails e
-          (((ap (λ (x : Setting). x .mode) p, ap (λ (x : Setting). x .layout) p), ap (λ (x : Setting). x .session) p), ap (λ (x : Setting). x .limit) p);
+      holds = λ e i. let z = b .holds e in record {
+        mode = z .0 .0 .0 .0 i;
+        layout = z .0 .0 .0 .1 i;
+        mac = z .0 .0 .1 i;
+        session = z .0 .1 i;
+        limit = z .1 i;
+      };
+      fails = λ e p. b .fails e (
+        (
+          ((ap (λ (x : Setting). x .mode) p, ap (λ (x : Setting). x .layout) p), ap (λ (x : Setting). x .mac) p),
+          ap (λ (x : Setting). x .session) p,
+        ),
+        ap (λ (x : Setting). x .limit) p,
+      );
     }
 
 -- a setting's fields are all zero exactly where it is the zeros

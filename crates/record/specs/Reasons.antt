@@ -12,9 +12,13 @@ use Rattle.record.specs.Header.{sessionOf, lengthOf}
 use Rattle.record.specs.Shape.{headLen, macLen, innerLen, mostLength, plainLen, dataLen}
 use Rattle.record.specs.Write.{lengthFor, totalFor}
 
--- mode above 1, layout above 1 (request g), or L = 0
+-- a MAC of another length than 8, 12 or 16 (request c)
+abbrev pub BadMac : Setting → Type 0
+BadMac s = ((s .mac ≡ 8 → ⊥) × (s .mac ≡ 12 → ⊥)) × (s .mac ≡ 16 → ⊥)
+
+-- mode above 1, layout above 1 (request g), such a MAC, or L = 0
 abbrev pub BadSetting : Setting → Type 0
-BadSetting s = ((1 < s .mode) ⊎ (1 < s .layout)) ⊎ (s .limit ≡ 0)
+BadSetting s = (((1 < s .mode) ⊎ (1 < s .layout)) ⊎ BadMac s) ⊎ (s .limit ≡ 0)
 
 -- Length under the MAC's (mode 0), or under 2 more (mode 1)
 abbrev pub TooSmall : Setting → List ℕ → Type 0

@@ -5,21 +5,26 @@ use mathlib.Core.Bool.{Bool, _&&_, _||_}
 use mathlib.Core.List.{List, [], _∷_}
 use lib.Dec.{ltb, eqb}
 use Rattle.answers.specs.Refusal as Refusal
-use Rattle.answers.specs.Table.{Check}
+use Rattle.answers.specs.Table.{Check, differ}
 use Rattle.numbers.specs.Word.{most}
 use Rattle.numbers.specs.declared.window.Rule.{Rule}
 use Rattle.record.specs.declared.setting.Setting.{Setting}
 
 abbrev pub zeroSetting : Setting
-zeroSetting = record { mode = 0; layout = 0; session = 0; limit = 0 }
+zeroSetting = record { mode = 0; layout = 0; mac = 0; session = 0; limit = 0 }
 
 -- page 01's own: what the requests made variable is as it stands there
 abbrev pub pageSetting : ℕ → ℕ → ℕ → Setting
-pageSetting mode session limit = record { mode = mode; layout = 0; session = session; limit = limit }
+pageSetting mode session limit = record { mode = mode; layout = 0; mac = 16; session = session; limit = limit }
 
 -- field by field
 unfoldable pub sameSetting : Setting → Setting → Bool
-sameSetting s t = eqb (s .mode) (t .mode) && eqb (s .layout) (t .layout) && eqb (s .session) (t .session) && eqb (s .limit) (t .limit)
+sameSetting s t =
+    eqb (s .mode) (t .mode)
+    && eqb (s .layout) (t .layout)
+    && eqb (s .mac) (t .mac)
+    && eqb (s .session) (t .session)
+    && eqb (s .limit) (t .limit)
 
 -- all its fields are zero
 unfoldable pub isZeroSetting : Setting → Bool
@@ -33,9 +38,13 @@ authOnly s = eqb (s .mode) 0
 unfoldable pub numberFirst : Setting → Bool
 numberFirst s = eqb (s .layout) 0
 
--- a mode above 1, a layout above 1, or no usable number
+-- the MAC has 8, 12 or 16 bytes
+unfoldable pub badMac : Setting → Bool
+badMac s = differ (s .mac) 8 && differ (s .mac) 12 && differ (s .mac) 16
+
+-- a mode above 1, a layout above 1, another length of the MAC, or no usable number
 unfoldable pub badSetting : Setting → Bool
-badSetting s = ltb 1 (s .mode) || ltb 1 (s .layout) || eqb (s .limit) 0
+badSetting s = ltb 1 (s .mode) || ltb 1 (s .layout) || badMac s || eqb (s .limit) 0
 
 -- 2: what Open refuses
 unfoldable pub openRows : Setting → List Check

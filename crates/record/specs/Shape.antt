@@ -1,7 +1,7 @@
 -- The shape that a setting gives a record. Where page 01 has a constant the function is constant: use it by its name and its laws.
 -- `r` is a record on the wire, `plain` the plaintext buffer that goes with it.
 -- Assumes nothing.
-use Prim.Native.Nat.{ℕ, _+_, _-_}
+use Prim.Native.Nat.{ℕ, _+_, _-_, min}
 use mathlib.Core.Bool.{Bool, not, cond, _&&_}
 use mathlib.Core.List.{List}
 use lib.Dec.{ltb}
@@ -20,8 +20,9 @@ headLen s = 8
 unfoldable pub shortest : ℕ
 shortest = 8
 
+-- the MAC's length; of a setting that is none of a channel at most 16, as it is of one
 unfoldable pub macLen : Setting → ℕ
-macLen s = 16
+macLen s = min 16 (s .mac)
 
 -- the field before the data in mode 1
 unfoldable pub innerLen : Setting → ℕ

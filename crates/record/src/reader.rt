@@ -22,7 +22,7 @@ impl Record {
     // The header's length.
     pub const HEADER: u64 = 8;
 
-    // The MAC's length.
+    // The longest MAC.
     pub const MAC: u64 = 16;
 
     // The length of the field before the data in mode 1.

@@ -5,12 +5,13 @@ ghost use mathlib.Core.Path.{_≡_};
 ghost use Rattle.record.specs.Setting.{zeroSetting, authOnly, numberFirst, badSetting, ruleOf};
 
 // Mode 0 is message authentication only, mode 1 encryption and authentication. Layout 0 has the
-// number in the first bytes of a nonce, layout 1 in the last. Usable numbers are those below the
-// limit.
+// number in the first bytes of a nonce, layout 1 in the last. The MAC has 8, 12 or 16 bytes. Usable
+// numbers are those below the limit.
 #[repr(C)]
 pub struct Setting {
     pub mode: u8,
     pub layout: u8,
+    pub mac: u8,
     pub session: u32,
     pub limit: u64,
 }
@@ -22,6 +23,7 @@ impl Setting {
         Setting {
             mode: 0,
             layout: 0,
+            mac: 0,
             session: 0,
             limit: 0,
         }
@@ -44,7 +46,8 @@ impl Setting {
     pub fn is_bad(self) -> bool
         ensures { λ r. ⌜ r ≡ badSetting self ⌝ }
     {
-        (1 < self.mode) | (1 < self.layout) | (self.limit == 0)
+        let odd = (self.mac != 8) & (self.mac != 12) & (self.mac != 16);
+        (1 < self.mode) | (1 < self.layout) | odd | (self.limit == 0)
     }
 
     // The rule of its keys.

@@ -19,10 +19,15 @@ pub(crate) fn head_len(setting: Setting) -> u64
     Record::HEADER
 }
 
+// At most the longest, so that no sum of lengths can pass a word.
 pub(crate) fn mac_len(setting: Setting) -> u64
     ensures { λ r. ⌜ r ≡ macLen setting ⌝ }
 {
-    Record::MAC
+    let mac = setting.mac as u64;
+    if Record::MAC <= mac {
+        return Record::MAC;
+    }
+    mac
 }
 
 pub(crate) fn inner_len(setting: Setting) -> u64

@@ -12,7 +12,11 @@ ghost use Rattle.channel.specs.Sender.{isZeroSender};
 fn blank_setting(setting: Setting) -> bool
     ensures { λ r. ⌜ r ≡ isZeroSetting setting ⌝ }
 {
-    (setting.mode == 0) & (setting.layout == 0) & (setting.session == 0) & (setting.limit == 0)
+    (setting.mode == 0)
+        & (setting.layout == 0)
+        & (setting.mac == 0)
+        & (setting.session == 0)
+        & (setting.limit == 0)
 }
 
 fn blank_key(key: Key) -> bool

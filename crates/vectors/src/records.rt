@@ -11,6 +11,7 @@ pub(crate) fn setting(mode: u8) -> Setting {
     Setting {
         mode: mode,
         layout: 0,
+        mac: 16,
         session: SESSION,
         limit: 18446744073709551615,
     }
@@ -65,6 +66,7 @@ fn nonce_in(name: &[u8], layout: u8, number: u64) {
     let chosen = Setting {
         mode: page.mode,
         layout: layout,
+        mac: page.mac,
         session: page.session,
         limit: page.limit,
     };
