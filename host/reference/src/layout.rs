@@ -8,8 +8,8 @@ pub struct Record;
 impl Record {
     /// Session ID, partial number and Length.
     pub const HEADER: usize = 8;
-    /// The authentication code at the end.
-    pub const MAC: usize = 16;
+    /// The lengths that Open takes for the authentication code at the end.
+    pub const MACS: [u8; 3] = [8, 12, 16];
     /// The application data length field, mode 1 only.
     pub const DATA_LENGTH: usize = 2;
     /// The largest value of the Length field.

@@ -7,7 +7,7 @@
 pub enum Refusal {
     /// The state given is one that no call returns.
     State = 1,
-    /// Mode or nonce layout above 1, or L = 0.
+    /// A choice that Open does not know, or L = 0.
     Setting = 2,
     /// Slot above 1, or the old key wanted with none held.
     Key = 3,
@@ -17,7 +17,7 @@ pub enum Refusal {
     Session = 5,
     /// Record is not 8 + Length bytes.
     Length = 6,
-    /// Length too small for the mode.
+    /// Length too small for the mode and the MAC.
     Small = 7,
     /// The number is not below L.
     Spent = 8,

@@ -15,6 +15,8 @@ pub struct Setting {
     /// Nonce layout: 0 has the number little-endian in the first 8 bytes, 1
     /// big-endian in the last 8.
     pub layout: u8,
+    /// Bytes of the MAC: 8, 12 or 16.
+    pub mac: u8,
     /// Session ID of the channel.
     pub session: u32,
     /// Record limit L: usable numbers are 0 to L - 1 for each key.
@@ -22,12 +24,13 @@ pub struct Setting {
 }
 
 impl Setting {
-    /// A setting as page 01 alone has it: nonce layout 0.
+    /// A setting as page 01 alone has it: nonce layout 0 and 16 MAC bytes.
     #[must_use]
     pub const fn new(mode: u8, session: u32, limit: u64) -> Self {
         Setting {
             mode,
             layout: 0,
+            mac: 16,
             session,
             limit,
         }

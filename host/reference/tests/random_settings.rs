@@ -10,9 +10,10 @@ use reference::Setting;
 type Choice = fn(&Setting) -> u16;
 
 /// The choices by name, with their good values.
-const CHOICES: [(&str, Choice, &[u16]); 2] = [
+const CHOICES: [(&str, Choice, &[u16]); 3] = [
     ("mode", |setting| u16::from(setting.mode), &[0, 1]),
     ("layout", |setting| u16::from(setting.layout), &[0, 1]),
+    ("mac", |setting| u16::from(setting.mac), &[8, 12, 16]),
 ];
 
 /// The values that a choice takes in many settings.

@@ -4,7 +4,6 @@ use super::key::Key;
 use super::nonce::nonce;
 use super::record::{data_part, ends, read_header, setting_is_bad};
 use crate::answers::{Offered, Settled};
-use crate::layout::Record;
 use crate::raw::RawReceiver;
 use crate::refusal::Refusal;
 use crate::setting::{Iv, Setting};
@@ -92,7 +91,7 @@ impl Receiver {
             Ok(found) => found,
             Err(refusal) => return refusal.into(),
         };
-        let (assoc, text) = ends(self.setting.mode, checked.length);
+        let (assoc, text) = ends(&self.setting, checked.length);
         Offered {
             answer: 0,
             count: checked.count,
@@ -202,7 +201,7 @@ impl Receiver {
         if claim != (checked.count, checked.number) {
             return Err(Refusal::Stale);
         }
-        let sealed = usize::from(checked.length) - Record::MAC;
+        let sealed = usize::from(checked.length) - usize::from(self.setting.mac);
         let wanted = if self.setting.mode == 0 { 0 } else { sealed };
         if plain.len() != wanted {
             return Err(Refusal::Plain);

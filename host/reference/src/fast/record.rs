@@ -14,16 +14,18 @@ pub(super) struct Header {
 /// Whether Open would refuse the setting.
 #[inline]
 pub(super) fn setting_is_bad(setting: &Setting) -> bool {
-    setting.mode > 1 || setting.layout > 1 || setting.limit == 0
+    let known_mac = matches!(setting.mac, 8 | 12 | 16);
+    setting.mode > 1 || setting.layout > 1 || !known_mac || setting.limit == 0
 }
 
 /// Length of a record with neither data nor random bytes.
 #[inline]
-pub(super) fn smallest_length(mode: u8) -> usize {
-    if mode == 0 {
-        Record::MAC
+pub(super) fn smallest_length(setting: &Setting) -> usize {
+    let mac = usize::from(setting.mac);
+    if setting.mode == 0 {
+        mac
     } else {
-        Record::MAC + Record::DATA_LENGTH
+        mac + Record::DATA_LENGTH
     }
 }
 
@@ -41,7 +43,7 @@ pub(super) fn read_header(rec: &[u8], setting: &Setting) -> Result<Header, Refus
     if rec.len() - Record::HEADER != usize::from(length) {
         return Err(Refusal::Length);
     }
-    if usize::from(length) < smallest_length(setting.mode) {
+    if usize::from(length) < smallest_length(setting) {
         return Err(Refusal::Small);
     }
     Ok(Header { low, length })
@@ -56,9 +58,9 @@ pub(super) fn header_bytes(session: u32, number: u64, length: u16) -> [u8; Recor
 
 /// The associated-data end and the text end, for a Length that is not Small.
 #[inline]
-pub(super) fn ends(mode: u8, length: u16) -> (u64, u64) {
-    let text = u64::from(length) + Record::HEADER as u64 - Record::MAC as u64;
-    let assoc = if mode == 0 {
+pub(super) fn ends(setting: &Setting, length: u16) -> (u64, u64) {
+    let text = Record::HEADER as u64 + u64::from(length) - u64::from(setting.mac);
+    let assoc = if setting.mode == 0 {
         text
     } else {
         Record::HEADER as u64

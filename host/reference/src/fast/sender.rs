@@ -78,14 +78,14 @@ impl Sender {
         let number = self.next;
         self.write(number, length, app, random, out);
         self.next += 1;
-        let (assoc, text) = ends(self.setting.mode, length);
+        let (assoc, text) = ends(&self.setting, length);
         Built {
             answer: 0,
             number,
             nonce: nonce(self.setting.layout, &self.iv, number),
             assoc,
             text,
-            total: text + Record::MAC as u64,
+            total: text + u64::from(self.setting.mac),
         }
     }
 
@@ -124,7 +124,7 @@ impl Sender {
         // Saturating, since the sum of two slice lengths may wrap.
         let length = app
             .saturating_add(random)
-            .saturating_add(smallest_length(self.setting.mode));
+            .saturating_add(smallest_length(&self.setting));
         let length = u16::try_from(length).map_err(|_| Refusal::Size)?;
         if room < Record::HEADER + usize::from(length) {
             return Err(Refusal::Room);

@@ -86,13 +86,13 @@ impl Channel {
 
     pub(super) fn offer(&self, rec: &[u8], slot: u8) -> Result<Offered, Refusal> {
         let weighed = self.weigh(rec, slot)?;
-        let Setting { mode, layout, .. } = self.setting;
-        let (assoc, text) = ends(mode, weighed.length);
+        let (assoc, text) = ends(&self.setting, weighed.length);
+        let iv = &self.keys[&weighed.count].iv;
         Ok(Offered {
             answer: 0,
             count: weighed.count,
             number: weighed.number,
-            nonce: nonce(layout, &self.keys[&weighed.count].iv, weighed.number),
+            nonce: nonce(self.setting.layout, iv, weighed.number),
             assoc,
             text,
         })
@@ -106,14 +106,14 @@ impl Channel {
         passed: bool,
         plain: &[u8],
     ) -> Result<Settled, Refusal> {
-        let mode = self.setting.mode;
+        let setting = self.setting;
         let weighed = self.weigh(rec, slot)?;
         Refusal::Stale.when(count != weighed.count || number != weighed.number)?;
-        Refusal::Plain.when(plain.len() as u64 != plain_length(mode, weighed.length))?;
+        Refusal::Plain.when(plain.len() as u64 != plain_length(&setting, weighed.length))?;
         Refusal::Mac.when(!passed)?;
         // Authentic from here on, so the number is marked even if Inner follows.
         self.remember(count, number);
-        let (place, length) = data_part(mode, weighed.length, plain)?;
+        let (place, length) = data_part(&setting, weighed.length, plain)?;
         Ok(Settled {
             answer: 0,
             place,

@@ -6,7 +6,6 @@ use crate::refusal::Refusal;
 use crate::setting::Setting;
 
 const HEADER: u64 = Record::HEADER as u64;
-const MAC: u64 = Record::MAC as u64;
 const DATA_LENGTH: u64 = Record::DATA_LENGTH as u64;
 
 /// What a record's header says, once refusals 4 to 7 are past.
@@ -23,30 +22,31 @@ pub(super) fn read_header(rec: &[u8], setting: &Setting) -> Result<Header, Refus
     let length = number_in(&rec[6..8]);
     Refusal::Session.when(session != u64::from(setting.session))?;
     Refusal::Length.when(rec.len() as u64 != HEADER + length)?;
-    Refusal::Small.when(length < smallest_length(setting.mode))?;
+    Refusal::Small.when(length < smallest_length(setting))?;
     Ok(Header { low, length })
 }
 
 /// Length of a record without data or random bytes.
-fn smallest_length(mode: u8) -> u64 {
-    if mode == 0 {
-        MAC
+fn smallest_length(setting: &Setting) -> u64 {
+    let mac = u64::from(setting.mac);
+    if setting.mode == 0 {
+        mac
     } else {
-        DATA_LENGTH + MAC
+        DATA_LENGTH + mac
     }
 }
 
 /// Length for P bytes of data and R random ones. Wide, so that no pair of
 /// slice lengths can wrap it.
-pub(super) fn length_for(mode: u8, data: usize, random: usize) -> u128 {
-    u128::from(smallest_length(mode)) + data as u128 + random as u128
+pub(super) fn length_for(setting: &Setting, data: usize, random: usize) -> u128 {
+    u128::from(smallest_length(setting)) + data as u128 + random as u128
 }
 
 /// The associated-data end and the text end. In mode 0 all before the MAC is
 /// associated data and the text is empty; in mode 1 the header alone is.
-pub(super) fn ends(mode: u8, length: u64) -> (u64, u64) {
-    let before_mac = HEADER + length - MAC;
-    if mode == 0 {
+pub(super) fn ends(setting: &Setting, length: u64) -> (u64, u64) {
+    let before_mac = HEADER + length - u64::from(setting.mac);
+    if setting.mode == 0 {
         (before_mac, before_mac)
     } else {
         (HEADER, before_mac)
@@ -54,21 +54,26 @@ pub(super) fn ends(mode: u8, length: u64) -> (u64, u64) {
 }
 
 /// How many bytes of plaintext the cipher gives back for this Length.
-pub(super) fn plain_length(mode: u8, length: u64) -> u64 {
-    if mode == 0 {
+pub(super) fn plain_length(setting: &Setting, length: u64) -> u64 {
+    if setting.mode == 0 {
         0
     } else {
-        length - MAC
+        length - u64::from(setting.mac)
     }
 }
 
 /// Place and length of the application data, or Inner.
-pub(super) fn data_part(mode: u8, length: u64, plain: &[u8]) -> Result<(u64, u64), Refusal> {
-    if mode == 0 {
-        return Ok((HEADER, length - MAC));
+pub(super) fn data_part(
+    setting: &Setting,
+    length: u64,
+    plain: &[u8],
+) -> Result<(u64, u64), Refusal> {
+    let most = length - smallest_length(setting);
+    if setting.mode == 0 {
+        return Ok((HEADER, most));
     }
     let data = number_in(&plain[0..2]);
-    Refusal::Inner.when(data > length - DATA_LENGTH - MAC)?;
+    Refusal::Inner.when(data > most)?;
     Ok((DATA_LENGTH, data))
 }
 

@@ -1,13 +1,15 @@
 //! The State rule in words, one clause after another.
 
-use crate::layout::Window;
+use crate::layout::{Record, Window};
 use crate::raw::{RawKey, RawReceiver, RawSender};
 use crate::setting::Setting;
 
-/// A setting that Open refuses: mode or layout above 1, or L = 0.
+/// A setting that Open refuses: mode or layout above 1, a MAC length that is
+/// none of the three, or L = 0.
 #[must_use]
 pub fn setting_is_bad(setting: &Setting) -> bool {
-    setting.mode > 1 || setting.layout > 1 || setting.limit == 0
+    let unknown_mac = !Record::MACS.contains(&setting.mac);
+    setting.mode > 1 || setting.layout > 1 || unknown_mac || setting.limit == 0
 }
 
 /// A sender's state that every call refuses.

@@ -60,7 +60,7 @@ impl Sender {
         Refusal::State.when(sender_is_bad(&self.state))?;
         Refusal::Spent.when(next == setting.limit)?;
         Refusal::Padding.when(setting.mode == 0 && !random.is_empty())?;
-        let length = length_for(setting.mode, app.len(), random.len());
+        let length = length_for(&setting, app.len(), random.len());
         Refusal::Size.when(length > Record::LARGEST as u128)?;
         let length = length as u64;
         let total = Record::HEADER as u64 + length;
@@ -69,7 +69,7 @@ impl Sender {
         let bytes = unsealed(&setting, next, length, app, random);
         out[..bytes.len()].copy_from_slice(&bytes);
         self.state.next = next + 1;
-        let (assoc, text) = ends(setting.mode, length);
+        let (assoc, text) = ends(&setting, length);
         Ok(Built {
             answer: 0,
             number: next,

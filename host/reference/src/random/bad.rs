@@ -36,10 +36,11 @@ pub fn any_receiver(rng: &mut Rng) -> RawReceiver {
 }
 
 fn break_setting(rng: &mut Rng, setting: &mut Setting) {
-    match rng.below(4) {
+    match rng.below(5) {
         0 => setting.mode = above_one(rng),
         1 => setting.mode = rng.word() as u8,
         2 => setting.layout = above_one(rng),
+        3 => setting.mac = rng.pick(&[0, 1, 4, 7, 9, 10, 11, 13, 15, 17, 24, 32, 255]),
         _ => setting.limit = 0,
     }
 }
@@ -104,6 +105,7 @@ fn scramble(rng: &mut Rng) -> RawReceiver {
         setting: Setting {
             mode: rng.word() as u8,
             layout: rng.word() as u8,
+            mac: rng.word() as u8,
             session: rng.word() as u32,
             limit: rng.word(),
         },

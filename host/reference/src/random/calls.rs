@@ -85,7 +85,7 @@ pub fn settle_call(rng: &mut Rng, state: &RawReceiver, rec: Vec<u8>, slot: u8) -
     // The call is only to be likely; a wrong number here would be Stale.
     let offered = fast::Receiver::from_raw(*state).offer(&rec, slot);
     let (count, number) = claim(rng, &offered);
-    let plain = plain_for(rng, state.setting.mode, &rec);
+    let plain = plain_for(rng, &state.setting, &rec);
     ReceiverCall::Settle {
         rec,
         slot,

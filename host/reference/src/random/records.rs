@@ -4,6 +4,7 @@ use super::numbers::near;
 use super::rng::Rng;
 use crate::layout::Record;
 use crate::raw::RawReceiver;
+use crate::setting::Setting;
 
 /// A record with this header and random bytes behind it.
 pub fn record(rng: &mut Rng, session: u32, low: u16, length: u16) -> Vec<u8> {
@@ -23,7 +24,7 @@ pub fn sound_record(rng: &mut Rng, state: &RawReceiver, slot: u8) -> Vec<u8> {
         &state.current
     };
     let low = near(rng, key.next) as u16;
-    let length = length(rng);
+    let length = length(rng, state.setting.mac);
     record(rng, state.setting.session, low, length)
 }
 
@@ -52,7 +53,11 @@ pub fn damage(rng: &mut Rng, rec: &mut Vec<u8>) {
 
 /// Another Length, with or without the bytes to match it.
 fn forge_length(rng: &mut Rng, rec: &mut Vec<u8>) {
-    let length: u16 = rng.pick(&[0, 1, 2, 8, 14, 15, 16, 17, 18, 19, 24, 65_535]);
+    let length = match rng.below(12) {
+        0 => u16::MAX,
+        1 => 24,
+        _ => rng.below(20) as u16,
+    };
     if let Some(field) = rec.get_mut(6..8) {
         field.copy_from_slice(&length.to_le_bytes());
     }
@@ -69,21 +74,23 @@ fn flip(rng: &mut Rng, rec: &mut [u8], first: usize) {
     }
 }
 
-/// A Length field, most often around the smallest ones.
-fn length(rng: &mut Rng) -> u16 {
+/// A Length field, most often around the smallest ones for this MAC.
+fn length(rng: &mut Rng, mac: u8) -> u16 {
+    let mac = u16::from(mac);
     match rng.below(2_000) {
         0 => rng.pick(&[65_533, 65_534, 65_535]),
         1..=150 => rng.below(20) as u16,
-        151..=900 => 16 + rng.below(5) as u16,
-        _ => 18 + rng.below(60) as u16,
+        151..=900 => mac + rng.below(5) as u16,
+        _ => mac + 2 + rng.below(60) as u16,
     }
 }
 
 /// A plaintext buffer for a record: mostly of the right length, and in mode 1
 /// with a data length around what fits.
-pub fn plain_for(rng: &mut Rng, mode: u8, rec: &[u8]) -> Vec<u8> {
-    let sealed = rec.len().saturating_sub(Record::HEADER + Record::MAC);
-    let right = if mode == 0 { 0 } else { sealed };
+pub fn plain_for(rng: &mut Rng, setting: &Setting, rec: &[u8]) -> Vec<u8> {
+    let around = Record::HEADER + usize::from(setting.mac);
+    let sealed = rec.len().saturating_sub(around);
+    let right = if setting.mode == 0 { 0 } else { sealed };
     let len = match rng.below(24) {
         0 => right + 1,
         1 => right.saturating_sub(1),

@@ -4,7 +4,7 @@ use super::rng::Rng;
 use crate::kind::Kind;
 use crate::layout::Record;
 use crate::raw::RawSender;
-use crate::setting::Iv;
+use crate::setting::{Iv, Setting};
 
 /// One call to a sender with all it is given.
 #[derive(Clone, Debug, PartialEq, Eq)]
@@ -41,8 +41,8 @@ pub fn sender_call(rng: &mut Rng, state: &RawSender) -> SenderCall {
     if rng.one_in(16) {
         return SenderCall::ChangeKey { iv: rng.iv() };
     }
-    let (data, padding) = sizes(rng, state.setting.mode);
-    let smallest = Record::HEADER + Record::MAC + Record::DATA_LENGTH;
+    let (data, padding) = sizes(rng, &state.setting);
+    let smallest = Record::HEADER + usize::from(state.setting.mac) + Record::DATA_LENGTH;
     let total = smallest + data + padding;
     // Two bytes either way of the total, since mode 0 has two fewer.
     let room = match rng.below(8) {
@@ -58,9 +58,10 @@ pub fn sender_call(rng: &mut Rng, state: &RawSender) -> SenderCall {
 }
 
 /// Sizes of the data and the random bytes, rarely around the largest record.
-fn sizes(rng: &mut Rng, mode: u8) -> (usize, usize) {
+fn sizes(rng: &mut Rng, setting: &Setting) -> (usize, usize) {
+    let Setting { mode, mac, .. } = *setting;
     if rng.one_in(400) {
-        let whole = 65_514 + rng.below(9) as usize;
+        let whole = 65_530 - usize::from(mac) + rng.below(9) as usize;
         let data = rng.pick(&[0, 1, 30_000, whole]);
         return if mode == 0 {
             (whole, 0)

@@ -2,6 +2,7 @@
 
 use super::numbers::{edge, limit, small_step};
 use super::rng::Rng;
+use crate::layout::Record;
 use crate::raw::{RawKey, RawReceiver, RawSender};
 use crate::setting::Setting;
 
@@ -15,6 +16,7 @@ pub fn good_setting(rng: &mut Rng) -> Setting {
     Setting {
         mode: rng.below(2) as u8,
         layout: rng.below(2) as u8,
+        mac: rng.pick(&Record::MACS),
         session,
         limit: limit(rng),
     }

@@ -3,6 +3,7 @@
 use super::bad::{any_receiver, any_sender};
 use super::rng::Rng;
 use super::states::{good_receiver, good_sender};
+use crate::layout::Record;
 use crate::raw::{RawRow, RawTable};
 use crate::setting::Setting;
 
@@ -66,9 +67,10 @@ fn nearly_free(rng: &mut Rng) -> RawRow {
 
 /// One field of a setting of zeros.
 fn set_one(rng: &mut Rng, setting: &mut Setting) {
-    match rng.below(3) {
+    match rng.below(4) {
         0 => setting.mode = 1,
         1 => setting.layout = 1,
+        2 => setting.mac = rng.pick(&Record::MACS),
         _ => setting.limit = 1,
     }
 }

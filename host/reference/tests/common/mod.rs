@@ -30,8 +30,15 @@ pub fn setting(mode: u8) -> Setting {
 /// Settings in both modes, with each choice that Open leaves at least once.
 pub fn good_settings() -> Vec<Setting> {
     let base = (0..2).map(setting);
-    base.flat_map(|base| [base, Setting { layout: 1, ..base }])
-        .collect()
+    base.flat_map(|base| {
+        [
+            base,
+            Setting { layout: 1, ..base },
+            Setting { mac: 8, ..base },
+            Setting { mac: 12, ..base },
+        ]
+    })
+    .collect()
 }
 
 /// A setting for each way in which Open refuses one.
@@ -45,6 +52,11 @@ pub fn bad_settings() -> Vec<Setting> {
             layout: 255,
             ..good
         },
+        Setting { mac: 0, ..good },
+        Setting { mac: 7, ..good },
+        Setting { mac: 10, ..good },
+        Setting { mac: 20, ..good },
+        Setting { mac: 255, ..good },
         Setting { limit: 0, ..good },
         Setting {
             limit: 0,

@@ -20,22 +20,23 @@ fn stream(key: u64, nonce: &Nonce, text: &[u8]) -> Vec<u8> {
     text.iter().zip(pad).map(|(a, b)| a ^ b).collect()
 }
 
-fn code(key: u64, nonce: &Nonce, assoc: &[u8], sealed: &[u8]) -> Vec<u8> {
-    Rng::new(mix(!key, &[nonce, assoc, sealed])).bytes(16)
+/// The MAC, of so many bytes.
+fn code(key: u64, nonce: &Nonce, assoc: &[u8], sealed: &[u8], len: usize) -> Vec<u8> {
+    Rng::new(mix(!key, &[nonce, assoc, sealed])).bytes(len)
 }
 
 /// Encrypts the text and writes the MAC behind it, where they stand.
 pub fn seal(key: u64, nonce: &Nonce, rec: &mut [u8], assoc: usize, text: usize) {
     let sealed = stream(key, nonce, &rec[assoc..text]);
     rec[assoc..text].copy_from_slice(&sealed);
-    let mac = code(key, nonce, &rec[..assoc], &sealed);
+    let mac = code(key, nonce, &rec[..assoc], &sealed, rec.len() - text);
     rec[text..].copy_from_slice(&mac);
 }
 
 /// The cipher's yes or no, and the plaintext (zeros on a no).
 pub fn open(key: u64, nonce: &Nonce, rec: &[u8], assoc: usize, text: usize) -> (bool, Vec<u8>) {
-    let sealed = &rec[assoc..text];
-    if code(key, nonce, &rec[..assoc], sealed) == rec[text..] {
+    let (sealed, mac) = (&rec[assoc..text], &rec[text..]);
+    if code(key, nonce, &rec[..assoc], sealed, mac.len()) == mac {
         (true, stream(key, nonce, sealed))
     } else {
         (false, vec![0; sealed.len()])
