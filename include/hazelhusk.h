@@ -1,4 +1,4 @@
-/* Hazelhusk 1.2: SPDM secured records over MCTP, for C.
+/* Hazelhusk 1.3: SPDM secured records over MCTP, for C.
  *
  * Link target/staticlib/libhusk.a. It needs nothing else: no heap, no C library, no global state.
  *
@@ -10,18 +10,21 @@
  * length 0 may be NULL.
  *
  * What you must do:
- *   - Open both ends of a channel with the same setting, its layout included, and the same key and IV.
- *     Between ends of different layouts nothing is promised: see HAZELHUSK_LAYOUT_LITTLE.
+ *   - Open both ends of a channel with the same setting, its layout and its MAC's length included, and the
+ *     same key and IV. Between ends that differ in either nothing is promised: see HAZELHUSK_LAYOUT_LITTLE
+ *     and HAZELHUSK_MAC_BYTES.
  *   - Keep the state that the last call left, and call with no other. A copy that is older repeats
  *     numbers. Give one state to one thread at a time.
  *   - Let no pointer of a call alias another: not the state, not the output buffer.
  *   - Between offer and settle run the cipher with exactly what offer answered: the key of `count`, the
- *     nonce, record[0 .. assoc) as associated data, record[assoc .. text) as text, and the 16 bytes
- *     from text on as MAC.
+ *     nonce, record[0 .. assoc) as associated data, record[assoc .. text) as text, and the MAC, of the
+ *     setting's length, from text on.
  *   - Give settle the very record, slot, count and number of that offer, the cipher's own answer (1 is
  *     yes; any other byte is no), and its text (mode 1: assoc .. text, decrypted; mode 0: length 0).
- *   - Seal what build wrote with the nonce and ends that it answered, and put the 16 MAC bytes at text.
- *     A built number is spent, whatever the cipher did.
+ *   - Seal what build wrote with the nonce and ends that it answered, and put the MAC, of the setting's
+ *     length, at out[text .. total). A built number is spent, whatever the cipher did.
+ *   - Where the MAC has 8 bytes, count HAZELHUSK_MAC under each key and change the key in time: see
+ *     docs/INTEGRATION.md, 'Which MAC length'.
  *   - Use a new key and IV for every change of key, at both ends, and drop the old one after KT1.
  *
  * A controller keeps a receiver and a sender for each of up to sixteen boards in one table: see
@@ -40,10 +43,9 @@ extern "C" {
 #endif
 
 /* It changes whenever a struct below does. */
-#define HAZELHUSK_VERSION 3
+#define HAZELHUSK_VERSION 4
 
 #define HAZELHUSK_HEADER_BYTES 8u  /* bytes of a record's header */
-#define HAZELHUSK_MAC_BYTES 16u   /* bytes of a record's MAC */
 #define HAZELHUSK_WINDOW_WIDTH 64u  /* numbers that a receive window remembers */
 #define HAZELHUSK_SLOT_CURRENT 0u  /* the slot of the current receive key */
 #define HAZELHUSK_SLOT_OLD 1u     /* the slot of the old one */
@@ -55,16 +57,21 @@ extern "C" {
 #define HAZELHUSK_LAYOUT_LITTLE 0u  /* little-endian in the first 8, then zeros */
 #define HAZELHUSK_LAYOUT_BIG 1u     /* zeros, then big-endian in the last 8 */
 
+/* How many bytes a record's MAC has is chosen at open: 8, 12 or 16, as the board has room. This is the
+ * usual length and the longest: a buffer of it takes any. Between ends that differ no record passes: one
+ * too small for the receiver's MAC is HAZELHUSK_SMALL, and the cipher refuses the others. */
+#define HAZELHUSK_MAC_BYTES 16u
+
 /* The refusals. */
 enum {
     HAZELHUSK_OK = 0,
     HAZELHUSK_STATE = 1,    /* the state is none that the calls return */
-    HAZELHUSK_SETTING = 2,  /* mode or layout above 1, or a limit of 0 */
+    HAZELHUSK_SETTING = 2,  /* mode or layout above 1, mac none of 8, 12 and 16, or a limit of 0 */
     HAZELHUSK_KEY = 3,      /* no such slot, or no old key */
     HAZELHUSK_SHORT = 4,    /* the record is shorter than a header */
     HAZELHUSK_SESSION = 5,  /* another Session ID */
     HAZELHUSK_LENGTH = 6,   /* the record is not its header and Length bytes */
-    HAZELHUSK_SMALL = 7,    /* Length is too small for the MAC */
+    HAZELHUSK_SMALL = 7,    /* Length is too small for the setting's MAC */
     HAZELHUSK_SPENT = 8,    /* the number is not below the limit */
     HAZELHUSK_OLD = 9,      /* the number lies behind the window */
     HAZELHUSK_REPEAT = 10,  /* the number was marked before */
@@ -87,8 +94,9 @@ enum {
 /* ---- states and answers, as they lie in memory */
 
 /* A channel's setting, the same at both ends. Mode 0 authenticates, mode 1 encrypts too; `layout` is one
- * of HAZELHUSK_LAYOUT_..; each key's numbers are those below `limit`. See hazelhusk_setting_of. */
-typedef struct { uint8_t mode, layout; uint32_t session; uint64_t limit; } hazelhusk_setting;
+ * of HAZELHUSK_LAYOUT_..; a MAC has `mac` bytes; each key's numbers are those below `limit`. See
+ * hazelhusk_setting_of. */
+typedef struct { uint8_t mode, layout, mac; uint32_t session; uint64_t limit; } hazelhusk_setting;
 typedef struct { uint8_t bytes[12]; } hazelhusk_iv;
 typedef struct { uint64_t word; } hazelhusk_marks;
 typedef struct { uint64_t next; hazelhusk_marks marks; } hazelhusk_window;
@@ -114,7 +122,8 @@ typedef struct {
 typedef struct { uint8_t answer; hazelhusk_sender next; } hazelhusk_sender_step;
 typedef struct { uint8_t answer; hazelhusk_receiver next; } hazelhusk_receiver_step;
 
-/* `assoc` and `text` are the ends of the associated data and of the text, `total` the record's length. */
+/* `assoc` and `text` are the ends of the associated data and of the text, `total` the record's length; the
+ * MAC lies between `text` and it. */
 typedef struct {
     uint8_t answer;
     uint64_t number;
@@ -190,11 +199,11 @@ uint8_t husk_table_change_receiver(hazelhusk_controller *table, uint8_t row, haz
 uint8_t husk_table_change_sender(hazelhusk_controller *table, uint8_t row, hazelhusk_iv iv);
 uint8_t husk_table_drop(hazelhusk_controller *table, uint8_t row);
 
-/* The usual setting: the layout is HAZELHUSK_LAYOUT_LITTLE. Where a board wants another, change that field
- * of it. */
+/* The usual setting: the layout is HAZELHUSK_LAYOUT_LITTLE, and the MAC has HAZELHUSK_MAC_BYTES. Where a
+ * board wants another, change that field of it. */
 static inline hazelhusk_setting hazelhusk_setting_of(uint8_t mode, uint32_t session, uint64_t limit)
 {
-    hazelhusk_setting setting = { mode, HAZELHUSK_LAYOUT_LITTLE, session, limit };
+    hazelhusk_setting setting = { mode, HAZELHUSK_LAYOUT_LITTLE, HAZELHUSK_MAC_BYTES, session, limit };
     return setting;
 }
 

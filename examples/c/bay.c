@@ -1,12 +1,13 @@
 /* A small part of a bay: one board's records cross the bus under a toy cipher, one is delivered twice,
- * one is forged, and the key changes while a record of the old key is late. Each line says what the
- * receiver answered; the program ends with 1 where an answer is not the one expected. */
+ * one is forged, and the key changes while a record of the old key is late. Then the same with a board of
+ * the first series, whose MAC has 8 bytes. Each line says what the receiver answered; the program ends
+ * with 1 where an answer is not the one expected. */
 #include <stdio.h>
 
 #include "hazelhusk.h"
 
 /* A toy MAC of record, key and nonce: a real host calls its crypto block here. */
-static void toy_mac(uint8_t key, const uint8_t nonce[12], const uint8_t *bytes, size_t len, uint8_t mac[16])
+static void toy_mac(uint8_t key, const uint8_t nonce[12], const uint8_t *bytes, size_t len, uint8_t mac[HAZELHUSK_MAC_BYTES])
 {
     uint64_t a = 0xcbf29ce484222325u ^ key, b = a * 31;
     for (size_t i = 0; i < 12; i++) a = (a ^ nonce[i]) * 0x100000001b3u;
@@ -18,20 +19,23 @@ static void toy_mac(uint8_t key, const uint8_t nonce[12], const uint8_t *bytes, 
 static size_t send_one(hazelhusk_sender *sender, uint8_t key, uint8_t reading, uint8_t out[64])
 {
     hazelhusk_built built;
+    uint8_t mac[HAZELHUSK_MAC_BYTES];
     if (hazelhusk_build(sender, &reading, 1, NULL, 0, out, 64, &built) != HAZELHUSK_OK) return 0;
-    toy_mac(key, built.nonce, out, built.assoc, out + built.text);
+    toy_mac(key, built.nonce, out, built.assoc, mac);
+    /* A shorter MAC is the first bytes of the longest, as AES-GCM has it too. */
+    memcpy(out + built.text, mac, sender->setting.mac);
     return built.total;
 }
 
 static uint8_t receive_one(hazelhusk_receiver *receiver, uint8_t key, uint8_t slot, const uint8_t *rec, size_t len, hazelhusk_part *app)
 {
     hazelhusk_offered offered;
-    uint8_t mac[16];
+    uint8_t mac[HAZELHUSK_MAC_BYTES];
     uint8_t answer = hazelhusk_offer(receiver, rec, len, slot, &offered);
     *app = (hazelhusk_part){ NULL, 0 };
     if (answer != HAZELHUSK_OK) return answer;
     toy_mac(key, offered.nonce, rec, offered.assoc, mac);
-    uint8_t yes = memcmp(mac, rec + offered.text, sizeof mac) == 0;
+    uint8_t yes = memcmp(mac, rec + offered.text, receiver->setting.mac) == 0;
     return hazelhusk_settle(receiver, rec, len, slot, offered.count, offered.number, yes, NULL, 0, app);
 }
 
@@ -43,7 +47,8 @@ static void expect(const char *what, uint8_t answer, uint8_t wanted, hazelhusk_p
     if (answer != wanted || app.length != (wanted == HAZELHUSK_OK)) failures++;
 }
 
-int main(void)
+/* With a MAC of so many bytes. Answers 0 where all went as expected. */
+static int story(uint8_t mac)
 {
     static const uint8_t iv[2][12] = { { 1, 2, 3 }, { 4, 5, 6 } };
     hazelhusk_setting setting = hazelhusk_setting_of(0, 0x11223344, UINT64_MAX);
@@ -52,8 +57,11 @@ int main(void)
     hazelhusk_part app;
     uint8_t first[64], late[64], fresh[64], forged[64];
 
+    setting.mac = mac;
     if (hazelhusk_sender_open(&sender, setting, iv[0]) || hazelhusk_receiver_open(&receiver, setting, iv[0])) return 1;
     size_t n = send_one(&sender, 7, 42, first);
+    printf("with a MAC of %u bytes, in records of %u\n", mac, (unsigned)n);
+    if (n != HAZELHUSK_HEADER_BYTES + 1 + (size_t)mac) failures++;
     expect("a record", receive_one(&receiver, 7, HAZELHUSK_SLOT_CURRENT, first, n, &app), HAZELHUSK_OK, app);
     expect("the bridge delivers it again", receive_one(&receiver, 7, HAZELHUSK_SLOT_CURRENT, first, n, &app), HAZELHUSK_REPEAT, app);
 
@@ -72,4 +80,9 @@ int main(void)
     if (hazelhusk_drop(&receiver)) return 1;
     expect("the old key after Drop", receive_one(&receiver, 7, HAZELHUSK_SLOT_OLD, late, m, &app), HAZELHUSK_KEY, app);
     return failures != 0;
+}
+
+int main(void)
+{
+    return story(HAZELHUSK_MAC_BYTES) || story(8);
 }
