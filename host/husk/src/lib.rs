@@ -49,7 +49,10 @@ pub const LAYOUT_LITTLE: u8 = 0;
 pub const LAYOUT_BIG: u8 = 1;
 /// The length of a record's header.
 pub const HEADER: usize = 8;
-/// The length of a record's MAC.
+/// How many bytes a record's MAC may have. Between ends that differ no record passes: one too small for the
+/// receiver's MAC is [`Refusal::Small`], and the cipher refuses the others.
+pub const MACS: [u8; 3] = [8, 12, 16];
+/// The usual length of a record's MAC, and the longest.
 pub const MAC: usize = 16;
 /// How many numbers a receive window remembers.
 pub const WIDTH: u64 = 64;

@@ -14,6 +14,8 @@ pub struct Setting {
     pub mode: u8,
     /// How a number makes a nonce: [`crate::LAYOUT_LITTLE`] or [`crate::LAYOUT_BIG`].
     pub layout: u8,
+    /// How many bytes a MAC has: one of [`crate::MACS`].
+    pub mac: u8,
     /// The Session ID.
     pub session: u32,
     /// Each key's numbers are those below it.

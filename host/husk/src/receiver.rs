@@ -20,7 +20,7 @@ pub struct Offered {
     pub nonce: [u8; 12],
     /// Where the associated data ends.
     pub assoc: usize,
-    /// Where the text ends and the MAC begins.
+    /// Where the text ends and the MAC begins: it is the rest of the record.
     pub text: usize,
 }
 

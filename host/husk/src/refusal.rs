@@ -7,7 +7,7 @@ use core::fmt;
 pub enum Refusal {
     /// The state is none that the calls return.
     State = 1,
-    /// Mode or layout above 1, or a limit of 0.
+    /// Mode or layout above 1, a MAC length that is none of [`crate::MACS`], or a limit of 0.
     Setting = 2,
     /// No such key slot, or no old key.
     Key = 3,
@@ -17,7 +17,7 @@ pub enum Refusal {
     Session = 5,
     /// The record is not its header and Length bytes.
     Length = 6,
-    /// Length is too small for the MAC.
+    /// Length is too small for the setting's MAC.
     Small = 7,
     /// The number is not below the limit.
     Spent = 8,

@@ -18,7 +18,7 @@ pub struct Built {
     pub nonce: [u8; 12],
     /// Where the associated data ends.
     pub assoc: usize,
-    /// Where the text ends and the MAC goes.
+    /// Where the text ends and the MAC goes: it fills the rest of the record.
     pub text: usize,
     /// The length of the whole record.
     pub total: usize,

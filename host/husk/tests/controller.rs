@@ -1,5 +1,5 @@
 //! The controller's table through the safe face.
-use husk::{raw, Controller, Refusal, Sender, Setting, CURRENT, LAYOUT_BIG, LAYOUT_LITTLE, OLD};
+use husk::{raw, Controller, Refusal, Sender, Setting, CURRENT, LAYOUT_BIG, LAYOUT_LITTLE, MACS, OLD};
 
 fn setting(mode: u8, session: u32) -> Setting {
     Setting::new(mode, session, u64::MAX)
@@ -65,6 +65,26 @@ fn each_row_has_its_own_layout() {
 }
 
 #[test]
+fn each_row_has_its_own_mac_length() {
+    let mut controller = Controller::new();
+    for mac in MACS {
+        let setting = Setting { mac, ..setting(1, mac.into()) };
+        let rec = record(&mut Sender::open(setting, [1; 12]).unwrap(), b"a");
+        let row = controller.open(setting, [1; 12], [2; 12]).unwrap();
+        let total = 8 + 2 + 1 + usize::from(mac);
+        let mut out = [0; 64];
+        let built = controller.build(row, b"a", b"", &mut out).unwrap();
+        assert_eq!((built.text, built.total, rec.len()), (11, total, total));
+        assert_eq!(controller.offer(&rec, CURRENT).unwrap().text, 11);
+        assert_eq!(controller.settle(&rec, CURRENT, 0, 0, true, &rec[8..11]), Ok(&b"a"[..]));
+        // The mode, the layout and the MAC's length share the first word of each end.
+        let kind = u64::from(mac) << 16 | 1;
+        let words = controller.state().rows[usize::from(row)];
+        assert_eq!((words[0], words[13]), (kind, kind));
+    }
+}
+
+#[test]
 fn rows_are_taken_and_freed_lowest_first() {
     let mut controller = Controller::default();
     for row in 0..husk::ROWS as u8 {
@@ -74,6 +94,8 @@ fn rows_are_taken_and_freed_lowest_first() {
     assert_eq!(controller.open(setting(2, 99), [0; 12], [0; 12]), Err(Refusal::Setting));
     let third = Setting { layout: 2, ..setting(1, 99) };
     assert_eq!(controller.open(third, [0; 12], [0; 12]), Err(Refusal::Setting));
+    let odd = Setting { mac: 10, ..setting(1, 99) };
+    assert_eq!(controller.open(odd, [0; 12], [0; 12]), Err(Refusal::Setting));
     assert_eq!(controller.open(setting(1, 15), [0; 12], [0; 12]), Err(Refusal::Twice));
     assert_eq!(controller.open(setting(1, 99), [0; 12], [0; 12]), Err(Refusal::Rows));
     assert_eq!(controller.close(16), Err(Refusal::Unknown));

@@ -1,8 +1,15 @@
-//! Page 01's worked cases, and both layouts of nonces, through the safe face.
-use husk::{raw, Receiver, Refusal, Sender, Setting, LAYOUT_BIG, LAYOUT_LITTLE};
+//! Page 01's worked cases, both layouts of nonces and each MAC length, through the safe face.
+use husk::{raw, Receiver, Refusal, Sender, Setting, LAYOUT_BIG, LAYOUT_LITTLE, MAC, MACS};
 
 fn setting(mode: u8) -> Setting {
     Setting::new(mode, 0x1122_3344, u64::MAX)
+}
+
+/// Both modes in both layouts, with each MAC length.
+fn settings() -> impl Iterator<Item = Setting> {
+    let modes = [setting(0), setting(1)].into_iter();
+    let laid = modes.flat_map(|setting| [LAYOUT_LITTLE, LAYOUT_BIG].map(|layout| Setting { layout, ..setting }));
+    laid.flat_map(|setting| MACS.map(|mac| Setting { mac, ..setting }))
 }
 
 /// The nonce that a sender of this layout has for a number.
@@ -24,13 +31,13 @@ fn each_layout_has_the_number_at_its_place() {
 
 #[test]
 fn a_record_goes_through_once() {
-    for (mode, layout) in [(0, LAYOUT_LITTLE), (0, LAYOUT_BIG), (1, LAYOUT_LITTLE), (1, LAYOUT_BIG)] {
-        let setting = Setting { layout, ..setting(mode) };
+    for setting in settings() {
         let mut sender = Sender::open(setting, [7; 12]).unwrap();
         let mut receiver = Receiver::open(setting, [7; 12]).unwrap();
         let mut out = [0u8; 64];
-        let random: &[u8] = if mode == 1 { b"\xff" } else { b"" };
+        let random: &[u8] = if setting.mode == 1 { b"\xff" } else { b"" };
         let built = sender.build(b"\xA0\xA1\xA2", random, &mut out).unwrap();
+        assert_eq!(built.total - built.text, usize::from(setting.mac));
         let record = &out[..built.total];
         let offered = receiver.offer(record, husk::CURRENT).unwrap();
         assert_eq!((offered.number, offered.nonce), (built.number, built.nonce));
@@ -57,19 +64,34 @@ fn keys_change_and_the_old_one_is_dropped() {
     assert_eq!(receiver.state().count, 1);
 }
 
+/// Open refuses this setting, and the calls a state that holds it.
+fn refused(bad: Setting) {
+    assert_eq!(Sender::open(bad, [0; 12]), Err(Refusal::Setting));
+    assert_eq!(Receiver::open(bad, [0; 12]), Err(Refusal::Setting));
+    let sender = Sender::open(setting(0), [0; 12]).unwrap().state();
+    let receiver = Receiver::open(setting(0), [0; 12]).unwrap().state();
+    let mut sender = Sender::from_state(raw::Sender { setting: bad, ..sender });
+    let receiver = Receiver::from_state(raw::Receiver { setting: bad, ..receiver });
+    assert_eq!(sender.change_key([1; 12]), Err(Refusal::State));
+    assert_eq!(receiver.offer(&[], 9), Err(Refusal::State));
+}
+
 #[test]
 fn a_refused_open_is_an_error_and_zeros_are_state() {
-    assert_eq!(Sender::open(Setting::new(2, 1, 1), [0; 12]), Err(Refusal::Setting));
-    assert_eq!(Receiver::open(Setting::new(0, 1, 0), [0; 12]), Err(Refusal::Setting));
-    let third = Setting { layout: 2, ..setting(0) };
-    assert_eq!(Sender::open(third, [0; 12]), Err(Refusal::Setting));
-    assert_eq!(Receiver::open(third, [0; 12]), Err(Refusal::Setting));
+    refused(Setting { mode: 2, ..setting(0) });
+    refused(Setting { layout: 2, ..setting(0) });
+    refused(Setting { limit: 0, ..setting(0) });
+    for mac in (0..=255).filter(|mac| !MACS.contains(mac)) {
+        refused(Setting { mac, ..setting(0) });
+    }
     let zeros = Receiver::from_state(raw::Receiver::default());
     assert_eq!(zeros.offer(&[], 9), Err(Refusal::State));
     assert_eq!(Sender::from_state(raw::Sender::default()).change_key([1; 12]), Err(Refusal::State));
-    let good = Receiver::open(setting(0), [0; 12]).unwrap().state();
-    let bad = Receiver::from_state(raw::Receiver { setting: third, ..good });
-    assert_eq!(bad.offer(&[], 9), Err(Refusal::State));
+}
+
+#[test]
+fn the_usual_mac_is_the_longest() {
+    assert_eq!((usize::from(setting(0).mac), MACS.iter().max()), (MAC, Some(&setting(0).mac)));
 }
 
 #[test]
