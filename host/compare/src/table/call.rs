@@ -1,6 +1,7 @@
 //! One call of a table, and what comes of it in both programs.
 use crate::setting_in;
 use husk::raw;
+use reference::layout::Record;
 use reference::random::{any_setting, good_setting, sender_call, Mailbox, ReceiverCall, Rng, SenderCall};
 use reference::table::row_is_free;
 use reference::{Built, Iv, Offered, Opened, RawTable, Setting, Settled, Table};
@@ -80,7 +81,8 @@ impl Call {
                 Call::Open(setting, rng.iv(), rng.iv())
             }
             5 => Call::Close(row),
-            6..=10 => Call::Send(row, sender_call(rng, &state.sender)),
+            6 => Call::Send(row, largest(rng, &state.sender.setting)),
+            7..=10 => Call::Send(row, sender_call(rng, &state.sender)),
             _ => Call::Receive(row, mailbox.next_call(rng, &state.receiver)),
         }
     }
@@ -156,6 +158,14 @@ fn any_row(rng: &mut Rng, table: &RawTable) -> u8 {
         _ if open.is_empty() => 0,
         _ => rng.pick(&open),
     }
+}
+
+/// A Build of the largest record of this setting, or of one byte more; other calls seldom come so far.
+fn largest(rng: &mut Rng, setting: &Setting) -> SenderCall {
+    let inner = if setting.mode == 0 { 0 } else { Record::DATA_LENGTH };
+    let data = Record::LARGEST - usize::from(setting.mac) - inner + rng.below(2) as usize;
+    let room = Record::HEADER + Record::LARGEST;
+    SenderCall::Build { app: rng.bytes(data), random: Vec::new(), out: rng.bytes(room) }
 }
 
 /// The mode of the row that a record is for.
