@@ -26,8 +26,8 @@ impl Opening {
             let offered = Receiver::open(setting(set.mode), IV).next.offer(rec, 0);
             let mut assoc = [0; husk::HEADER];
             assoc.copy_from_slice(&rec[..offered.assoc as usize]);
-            let mut text = set.plain.clone();
-            let tag = aead.seal(&offered.nonce, &assoc, &mut text);
+            let (mut text, mut tag) = (set.plain.clone(), [0; TAG]);
+            aead.seal(&offered.nonce, &assoc, &mut text, &mut tag);
             records.push(Sealed { nonce: offered.nonce, assoc, text, tag });
         }
         Opening { aead, records, text: set.plain.clone() }

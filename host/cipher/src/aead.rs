@@ -1,20 +1,23 @@
 //! A key of one cipher, and its two operations on a record.
 use crate::evp;
-use crate::{Suite, KEY, NONCE, TAG};
+use crate::{NoSuchTag, Suite, KEY, NONCE, TAG};
 use std::os::raw::c_int;
 use std::ptr::{null, null_mut, NonNull};
 
-/// A key for one cipher. It is forgotten, and its memory wiped, when this is dropped.
+/// A key for one cipher, with tags of one length. It is forgotten, and its memory wiped, when this is
+/// dropped.
 pub struct Aead {
     // It keeps the key schedule from record to record.
     context: NonNull<evp::Context>,
+    // One length for a key, as SP 800-38D has it: a forger must not choose the tag that is guessed best.
+    tag: usize,
 }
 
 // SAFETY: the context is this value's alone, and libcrypto ties it to no thread.
 unsafe impl Send for Aead {}
 
 impl Aead {
-    /// The cipher under this key.
+    /// The cipher under this key, with tags of the usual length.
     ///
     /// # Panics
     /// Where libcrypto has no memory, or does not offer this cipher.
@@ -24,6 +27,7 @@ impl Aead {
         let context = NonNull::new(unsafe { evp::EVP_CIPHER_CTX_new() });
         let aead = Aead {
             context: context.expect("libcrypto has no memory for a key"),
+            tag: TAG,
         };
         // SAFETY: the context was just made, the description is a constant, and both ciphers read the
         // 32 bytes that `key` has. No nonce is given yet.
@@ -41,39 +45,48 @@ impl Aead {
         aead
     }
 
-    /// Encrypts `text` in place and answers the tag of `assoc` and `text`.
+    /// The cipher under this key, with tags of `len` bytes: the MAC's length of the channel that the key
+    /// is for.
+    ///
+    /// # Errors
+    /// [`NoSuchTag`], where `len` is none of [`Suite::tags`]: for ChaCha20-Poly1305 all but sixteen.
     ///
     /// # Panics
-    /// Where libcrypto fails, so that nothing is sent unsealed. It has no cause to for a record; a part
-    /// of 2 GiB or more is one.
-    #[must_use]
-    pub fn seal(&mut self, nonce: &[u8; NONCE], assoc: &[u8], text: &mut [u8]) -> [u8; TAG] {
-        let mut tag = [0u8; TAG];
+    /// As [`Aead::new`].
+    pub fn with_tag(suite: Suite, key: &[u8; KEY], len: usize) -> Result<Aead, NoSuchTag> {
+        if !suite.tags().contains(&len) {
+            return Err(NoSuchTag { suite, len });
+        }
+        let mut aead = Aead::new(suite, key);
+        aead.tag = len;
+        Ok(aead)
+    }
+
+    /// Encrypts `text` in place and writes the tag of `assoc` and `text`.
+    ///
+    /// # Panics
+    /// Where `tag` has another length than the tags of this key, or libcrypto fails, so that nothing is
+    /// sent unsealed. It has no cause to for a record; a part of 2 GiB or more is one.
+    pub fn seal(&mut self, nonce: &[u8; NONCE], assoc: &[u8], text: &mut [u8], tag: &mut [u8]) {
+        assert_eq!(tag.len(), self.tag, "the key's tags have another length");
         let went = self.begin(nonce, evp::ENCRYPT)
             && self.associate(assoc)
             && self.convert(text)
             && self.finish()
-            && self.tag(evp::GET_TAG, &mut tag);
+            && self.tag(evp::GET_TAG, tag);
         assert!(went, "libcrypto did not seal a record");
-        tag
     }
 
-    /// Decrypts `text` in place and answers whether the tag is that of `assoc` and `text`. On a no the
-    /// text is cleared, since what was decrypted is nobody's.
+    /// Decrypts `text` in place and answers whether the tag is that of `assoc` and `text`; it is not where
+    /// its length is not that of the key's tags. On a no the text is cleared, since what was decrypted is
+    /// nobody's.
     #[must_use]
-    pub fn open(
-        &mut self,
-        nonce: &[u8; NONCE],
-        assoc: &[u8],
-        text: &mut [u8],
-        tag: &[u8; TAG],
-    ) -> bool {
-        // libcrypto asks for a tag that it may write to.
-        let mut tag = *tag;
-        let yes = self.begin(nonce, evp::DECRYPT)
+    pub fn open(&mut self, nonce: &[u8; NONCE], assoc: &[u8], text: &mut [u8], tag: &[u8]) -> bool {
+        let yes = tag.len() == self.tag
+            && self.begin(nonce, evp::DECRYPT)
             && self.associate(assoc)
             && self.convert(text)
-            && self.tag(evp::SET_TAG, &mut tag)
+            && self.expect(tag)
             && self.finish();
         if !yes {
             text.fill(0);
@@ -137,14 +150,23 @@ impl Aead {
         }
     }
 
-    /// Gets or sets the tag.
-    fn tag(&mut self, command: c_int, tag: &mut [u8; TAG]) -> bool {
-        // SAFETY: the context is alive, and both commands use the 16 bytes that `tag` has.
+    /// Sets the tag that the record must have.
+    fn expect(&mut self, tag: &[u8]) -> bool {
+        // libcrypto asks for a tag that it may write to.
+        let mut room = [0u8; TAG];
+        let copy = &mut room[..tag.len()];
+        copy.copy_from_slice(tag);
+        self.tag(evp::SET_TAG, copy)
+    }
+
+    /// Gets or sets the tag: its first bytes, as many as `tag` has, which is at most 16.
+    fn tag(&mut self, command: c_int, tag: &mut [u8]) -> bool {
+        // SAFETY: the context is alive, and both commands use as many bytes as they are told that `tag` has.
         let went = unsafe {
             evp::EVP_CIPHER_CTX_ctrl(
                 self.context.as_ptr(),
                 command,
-                TAG as c_int,
+                tag.len() as c_int,
                 tag.as_mut_ptr().cast(),
             )
         };

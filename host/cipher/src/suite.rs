@@ -1,5 +1,5 @@
 //! The two ciphers.
-use crate::evp;
+use crate::{evp, TAG};
 
 /// Which cipher a key is for.
 #[derive(Clone, Copy, Debug, PartialEq, Eq, Hash)]
@@ -11,6 +11,16 @@ pub enum Suite {
 }
 
 impl Suite {
+    /// The lengths of its tags: those that a record's MAC may have and the cipher's own document has,
+    /// SP 800-38D or RFC 8439.
+    #[must_use]
+    pub fn tags(self) -> &'static [usize] {
+        match self {
+            Suite::Aes256Gcm => &[8, 12, TAG],
+            Suite::ChaCha20Poly1305 => &[TAG],
+        }
+    }
+
     /// libcrypto's description of the cipher, which is never freed.
     pub(crate) fn description(self) -> *const evp::Cipher {
         // SAFETY: both take nothing and answer a pointer to a constant of the library.

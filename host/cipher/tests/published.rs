@@ -1,4 +1,5 @@
-//! Published vectors: each is sealed, opened, and refused with one bit changed.
+//! Published vectors: each is sealed, opened, and refused with one bit changed. A shorter tag is the first
+//! bytes of the published one: SP 800-38D, 7.1, takes the leftmost bits.
 use cipher::{Aead, Suite, NONCE, TAG};
 
 /// A published vector, in hexadecimal.
@@ -24,45 +25,53 @@ fn array<const N: usize>(hex: &str) -> [u8; N] {
     bytes(hex).try_into().expect("as many bytes")
 }
 
+/// The vector with each length of tag that the cipher has.
+fn check(suite: Suite, v: &Vector) {
+    let tag: [u8; TAG] = array(v.tag);
+    for &len in suite.tags() {
+        let aead = Aead::with_tag(suite, &array(v.key), len).unwrap();
+        check_tag(aead, v, &tag[..len]);
+    }
+    check_tag(Aead::new(suite, &array(v.key)), v, &tag);
+}
+
 /// One after another under one `Aead`, so that each operation also shows that the one before left
 /// nothing behind.
-fn check(suite: Suite, v: &Vector) {
-    let mut aead = Aead::new(suite, &array(v.key));
+fn check_tag(mut aead: Aead, v: &Vector, tag: &[u8]) {
     let nonce: [u8; NONCE] = array(v.nonce);
-    let tag: [u8; TAG] = array(v.tag);
     let assoc = bytes(v.assoc);
 
-    let mut text = bytes(v.text);
-    assert_eq!(aead.seal(&nonce, &assoc, &mut text), tag);
-    assert_eq!(text, bytes(v.sealed));
-    assert!(aead.open(&nonce, &assoc, &mut text, &tag));
+    let (mut text, mut made) = (bytes(v.text), vec![0; tag.len()]);
+    aead.seal(&nonce, &assoc, &mut text, &mut made);
+    assert_eq!((&text, &made[..]), (&bytes(v.sealed), tag));
+    assert!(aead.open(&nonce, &assoc, &mut text, tag));
     assert_eq!(text, bytes(v.text));
 
-    for place in 0..TAG {
-        let mut wrong = tag;
+    for place in 0..tag.len() {
+        let mut wrong = tag.to_vec();
         wrong[place] ^= 1;
         refused(&mut aead, &nonce, &assoc, bytes(v.sealed), &wrong);
     }
     for place in 0..assoc.len() {
         let mut wrong = assoc.clone();
         wrong[place] ^= 0x80;
-        refused(&mut aead, &nonce, &wrong, bytes(v.sealed), &tag);
+        refused(&mut aead, &nonce, &wrong, bytes(v.sealed), tag);
     }
     for place in 0..text.len() {
         let mut wrong = bytes(v.sealed);
         wrong[place] ^= 1;
-        refused(&mut aead, &nonce, &assoc, wrong, &tag);
+        refused(&mut aead, &nonce, &assoc, wrong, tag);
     }
     let mut other = nonce;
     other[0] ^= 1;
-    refused(&mut aead, &other, &assoc, bytes(v.sealed), &tag);
+    refused(&mut aead, &other, &assoc, bytes(v.sealed), tag);
 
     let mut text = bytes(v.sealed);
-    assert!(aead.open(&nonce, &assoc, &mut text, &tag));
+    assert!(aead.open(&nonce, &assoc, &mut text, tag));
     assert_eq!(text, bytes(v.text));
 }
 
-fn refused(aead: &mut Aead, nonce: &[u8; 12], assoc: &[u8], mut text: Vec<u8>, tag: &[u8; 16]) {
+fn refused(aead: &mut Aead, nonce: &[u8; 12], assoc: &[u8], mut text: Vec<u8>, tag: &[u8]) {
     assert!(!aead.open(nonce, assoc, &mut text, tag));
     assert!(text.iter().all(|byte| *byte == 0), "a no leaves no text");
 }
@@ -170,21 +179,10 @@ fn another_key_says_no() {
         (Suite::Aes256Gcm, Suite::ChaCha20Poly1305),
         (Suite::ChaCha20Poly1305, Suite::Aes256Gcm),
     ] {
-        let mut text = *b"a reading";
-        let tag = Aead::new(suite, &[1; 32]).seal(&nonce, b"", &mut text);
-        refused(
-            &mut Aead::new(suite, &[2; 32]),
-            &nonce,
-            b"",
-            text.to_vec(),
-            &tag,
-        );
-        refused(
-            &mut Aead::new(other, &[1; 32]),
-            &nonce,
-            b"",
-            text.to_vec(),
-            &tag,
-        );
+        let (mut text, mut tag) = (b"a reading".to_vec(), [0; TAG]);
+        Aead::new(suite, &[1; 32]).seal(&nonce, b"", &mut text, &mut tag);
+        for mut aead in [Aead::new(suite, &[2; 32]), Aead::new(other, &[1; 32])] {
+            refused(&mut aead, &nonce, b"", text.clone(), &tag);
+        }
     }
 }

@@ -63,7 +63,7 @@ impl Board {
         record.truncate(built.total);
         let (assoc, rest) = record.split_at_mut(built.assoc);
         let (text, mac) = rest.split_at_mut(built.text - built.assoc);
-        mac.copy_from_slice(&self.aead.seal(&built.nonce, assoc, text));
+        self.aead.seal(&built.nonce, assoc, text, mac);
         Ok(record)
     }
 

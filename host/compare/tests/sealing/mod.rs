@@ -42,10 +42,10 @@ pub fn send<S: SenderCalls>(sender: &mut S, keys: &Keys, rng: &mut Rng) -> Optio
         return None;
     }
     let (assoc, text, total) = (built.assoc as usize, built.text as usize, built.total as usize);
-    let (front, rest) = out.split_at_mut(assoc);
-    let tag = keys.cipher(count).seal(&built.nonce, front, &mut rest[..text - assoc]);
-    rest[text - assoc..total - assoc].copy_from_slice(&tag);
     out.truncate(total);
+    let (front, rest) = out.split_at_mut(assoc);
+    let (body, mac) = rest.split_at_mut(text - assoc);
+    keys.cipher(count).seal(&built.nonce, front, body, mac);
     Some(Sent { bytes: out, count, number: built.number, app })
 }
 
@@ -58,8 +58,7 @@ pub fn receive<V: Version>(receiver: &mut V::Receiver, keys: &Keys, rec: &[u8], 
     let mode = receiver.raw().setting.mode;
     let (assoc, text) = (offered.assoc as usize, offered.text as usize);
     let mut plain = rec[assoc..text].to_vec();
-    let tag = rec[text..].try_into().unwrap();
-    let yes = keys.cipher(offered.count).open(&offered.nonce, &rec[..assoc], &mut plain, &tag);
+    let yes = keys.cipher(offered.count).open(&offered.nonce, &rec[..assoc], &mut plain, &rec[text..]);
     let settled = receiver.settle(rec, slot, offered.count, offered.number, yes, &plain);
     let data = V::view(mode, settled.place, settled.length, rec, &plain).to_vec();
     (settled.answer, offered.count, offered.number, data)
