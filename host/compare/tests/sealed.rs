@@ -1,6 +1,7 @@
 //! Real cipher text: what either version builds and the cipher seals, both read back alike, in both modes
-//! and layouts and with both ciphers, over losses, repeats, damage, key changes with late records, and
-//! drops. Whatever is handed out was sent, under its key and number, and is handed out once.
+//! and layouts, with each MAC length and with both ciphers, over losses, repeats, damage, key changes with
+//! late records, and drops. Whatever is handed out was sent, under its key and number, and is handed out
+//! once.
 mod sealing;
 
 use cipher::Suite;
@@ -8,7 +9,7 @@ use compare::Husk;
 use reference::random::Rng;
 use reference::version::{Memory, ReceiverCalls, SenderCalls, Version};
 use reference::Setting;
-use sealing::{receive, send, Keys, Sent};
+use sealing::{receive, send, suites, Keys, Sent};
 use std::collections::{HashMap, HashSet};
 
 /// One of the last records that were sent, damaged one time in five.
@@ -61,10 +62,11 @@ fn run<S: Version>(suite: Suite, setting: Setting, seed: u64) -> usize {
     handed.len()
 }
 
-/// Both modes, in both layouts.
+/// Both modes, in both layouts, with each MAC length.
 fn settings() -> impl Iterator<Item = Setting> {
-    let modes = [0, 1].map(|mode| Setting::new(mode, 0, 1 << 20));
-    modes.into_iter().flat_map(|setting| [setting, Setting { layout: 1, ..setting }])
+    let modes = [0, 1].map(|mode| Setting::new(mode, 0, 1 << 20)).into_iter();
+    let laid = modes.flat_map(|setting| [setting, Setting { layout: 1, ..setting }]);
+    laid.flat_map(|setting| husk::MACS.map(|mac| Setting { mac, ..setting }))
 }
 
 #[test]
@@ -72,11 +74,11 @@ fn sealed_records_are_read_back_alike_and_once() {
     let mut handed = 0;
     for seed in 0..6 {
         for setting in settings() {
-            for suite in [Suite::Aes256Gcm, Suite::ChaCha20Poly1305] {
+            for suite in suites(setting.mac) {
                 handed += run::<Husk>(suite, setting, seed);
                 handed += run::<Memory>(suite, setting, seed);
             }
         }
     }
-    assert!(handed > 4_000, "only {} records were handed out", handed);
+    assert!(handed > 8_000, "only {} records were handed out", handed);
 }

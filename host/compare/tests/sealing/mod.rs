@@ -2,6 +2,13 @@
 use cipher::{Aead, Suite};
 use reference::random::Rng;
 use reference::version::{ReceiverCalls, SenderCalls, Version};
+use reference::Setting;
+
+/// The ciphers that have a MAC of so many bytes.
+pub fn suites(mac: u8) -> impl Iterator<Item = Suite> {
+    let both = [Suite::Aes256Gcm, Suite::ChaCha20Poly1305];
+    both.into_iter().filter(move |suite| suite.tags().contains(&mac.into()))
+}
 
 /// A sealed record on its way, with what the test knows of it.
 #[derive(Clone)]
@@ -23,9 +30,10 @@ impl Keys {
         Rng::new(self.seed ^ (u64::from(count) << 32) ^ 0xabcd).iv()
     }
 
-    fn cipher(&self, count: u32) -> Aead {
+    /// The cipher of this key, for the end with this setting.
+    fn cipher(&self, count: u32, setting: Setting) -> Aead {
         let bytes = Rng::new(self.seed ^ (u64::from(count) << 32)).bytes(32);
-        Aead::new(self.suite, &bytes.try_into().unwrap())
+        Aead::with_tag(self.suite, &bytes.try_into().unwrap(), setting.mac.into()).unwrap()
     }
 }
 
@@ -45,7 +53,7 @@ pub fn send<S: SenderCalls>(sender: &mut S, keys: &Keys, rng: &mut Rng) -> Optio
     out.truncate(total);
     let (front, rest) = out.split_at_mut(assoc);
     let (body, mac) = rest.split_at_mut(text - assoc);
-    keys.cipher(count).seal(&built.nonce, front, body, mac);
+    keys.cipher(count, sender.raw().setting).seal(&built.nonce, front, body, mac);
     Some(Sent { bytes: out, count, number: built.number, app })
 }
 
@@ -55,11 +63,12 @@ pub fn receive<V: Version>(receiver: &mut V::Receiver, keys: &Keys, rec: &[u8], 
     if offered.answer != 0 {
         return (offered.answer, 0, 0, Vec::new());
     }
-    let mode = receiver.raw().setting.mode;
+    let setting = receiver.raw().setting;
     let (assoc, text) = (offered.assoc as usize, offered.text as usize);
     let mut plain = rec[assoc..text].to_vec();
-    let yes = keys.cipher(offered.count).open(&offered.nonce, &rec[..assoc], &mut plain, &rec[text..]);
+    let mut cipher = keys.cipher(offered.count, setting);
+    let yes = cipher.open(&offered.nonce, &rec[..assoc], &mut plain, &rec[text..]);
     let settled = receiver.settle(rec, slot, offered.count, offered.number, yes, &plain);
-    let data = V::view(mode, settled.place, settled.length, rec, &plain).to_vec();
+    let data = V::view(setting.mode, settled.place, settled.length, rec, &plain).to_vec();
     (settled.answer, offered.count, offered.number, data)
 }
