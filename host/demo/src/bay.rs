@@ -57,6 +57,7 @@ impl Bay {
         let session = u32::from_le_bytes(self.rng.bytes());
         let setting = Setting {
             layout: plan.layout,
+            mac: plan.mac,
             ..Setting::new(plan.mode, session, u64::MAX)
         };
         let secret = Secret::agree(&mut self.rng);

@@ -11,7 +11,7 @@ const PADDING: u32 = 8;
 
 /// A board, the sending end of a channel.
 pub struct Board {
-    mode: u8,
+    setting: Setting,
     sender: Sender,
     aead: Aead,
     reading: Reading,
@@ -26,9 +26,9 @@ impl Board {
     /// [`Refusal::Setting`].
     pub fn new(setting: Setting, secret: &Secret, rng: Rng) -> Result<Board, Refusal> {
         Ok(Board {
-            mode: setting.mode,
+            setting,
             sender: Sender::open(setting, secret.iv())?,
-            aead: secret.aead(),
+            aead: secret.aead(setting),
             reading: Reading::default(),
             rng,
             hung: false,
@@ -54,7 +54,7 @@ impl Board {
     fn seal(&mut self, app: &[u8]) -> Result<Vec<u8>, Refusal> {
         let padding: [u8; PADDING as usize] = self.rng.bytes();
         // Only an encrypted record may be padded; its length then tells less of what is in it.
-        let padding = match self.mode {
+        let padding = match self.setting.mode {
             husk::ENCRYPTED => &padding[..self.rng.below(PADDING) as usize],
             _ => &[],
         };
@@ -73,7 +73,7 @@ impl Board {
     /// [`Refusal::Epochs`].
     pub fn change_key(&mut self, secret: &Secret) -> Result<(), Refusal> {
         self.sender.change_key(secret.iv())?;
-        self.aead = secret.aead();
+        self.aead = secret.aead(self.setting);
         Ok(())
     }
 

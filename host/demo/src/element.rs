@@ -32,7 +32,7 @@ impl Element {
         Element {
             setting,
             row,
-            current: secret.aead(),
+            current: secret.aead(setting),
             old: None,
             tally: Tally::default(),
             lit: false,
@@ -99,7 +99,8 @@ impl Element {
     /// [`Refusal::Held`], where the old key was not dropped; [`Refusal::Epochs`].
     pub(crate) fn change_key(&mut self, table: &mut Table, secret: &Secret) -> Result<(), Refusal> {
         table.change_receiver(self.row, secret.iv())?;
-        self.old = Some(std::mem::replace(&mut self.current, secret.aead()));
+        let fresh = secret.aead(self.setting);
+        self.old = Some(std::mem::replace(&mut self.current, fresh));
         Ok(())
     }
 
@@ -126,6 +127,11 @@ impl Element {
     /// The layout of its nonces.
     pub fn layout(&self) -> u8 {
         self.setting.layout
+    }
+
+    /// How many bytes its MAC has.
+    pub fn mac(&self) -> u8 {
+        self.setting.mac
     }
 
     /// Its row in the controller's table.

@@ -2,8 +2,9 @@
 //!
 //! Nine boards hang, and the bridge goes on delivering their last record, whose MAC is good. The
 //! controller hands each record out once: the nine go dark. Of the others one is a second maker's, with
-//! another layout of nonces, one passes the 16-bit turn of its numbers, one changes its key while records
-//! of the old one are late, one is fed forged records, and some have a bus that loses and reorders.
+//! another layout of nonces, one is of the first series, with a shorter MAC, one passes the 16-bit turn of
+//! its numbers, one changes its key while records of the old one are late, one is fed forged records, and
+//! some have a bus that loses and reorders.
 //!
 //! [`Board`], [`Bridge`] and [`Bus`] are the simulated side. [`Controller`] and [`Element`] are what a
 //! bay controller would have: one table with a row for each board, and the cipher between its two calls.
@@ -28,7 +29,7 @@ pub use bridge::Bridge;
 pub use bus::{Bus, Fate, Forgery};
 pub use controller::Controller;
 pub use element::{Element, Tally};
-pub use plan::{Plan, KT1, PLANS};
+pub use plan::{Plan, KT1, OLD_MAC, PLANS};
 pub use reading::Reading;
 pub use rng::Rng;
 pub use secret::Secret;

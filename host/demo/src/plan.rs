@@ -1,13 +1,16 @@
 //! What happens to each element. A tick is a second: every board sends one record in it.
 use crate::bus::{Fate, Forgery};
 use crate::ELEMENTS;
-use husk::{AUTHENTICATED, ENCRYPTED, LAYOUT_BIG, LAYOUT_LITTLE};
+use husk::{AUTHENTICATED, ENCRYPTED, LAYOUT_BIG, LAYOUT_LITTLE, MAC};
 
 /// For how many ticks after a key change the old key is held: DSP0276's KT1, ten seconds.
 pub const KT1: u32 = 10;
 
 /// How many records the long-serving board sent before the first tick: its turn comes at tick 56.
 const BEFORE: u64 = 65_480;
+
+/// How many MAC bytes a board of the first series has room for.
+pub const OLD_MAC: u8 = 8;
 
 /// One element's part in the story.
 #[derive(Clone, Copy)]
@@ -16,6 +19,8 @@ pub struct Plan {
     pub mode: u8,
     /// How its board's maker lays out nonces.
     pub layout: u8,
+    /// How many bytes its MAC has.
+    pub mac: u8,
     /// How many records its board sent before the first tick.
     pub before: u64,
     /// The tick at which its board hangs.
@@ -29,6 +34,7 @@ pub struct Plan {
 const WELL: Plan = Plan {
     mode: ENCRYPTED,
     layout: LAYOUT_LITTLE,
+    mac: MAC as u8,
     before: 0,
     hangs: None,
     changes_key: None,
@@ -81,12 +87,14 @@ pub const PLANS: [Plan; ELEMENTS] = [
         ..WELL
     },
     hangs(66),
-    // 11 and 12: a bus that loses, and one that reorders.
+    // 11: a bus that loses.
     Plan {
         fate: lossy,
         ..WELL
     },
+    // 12: a board of the first series, and a bus that reorders.
     Plan {
+        mac: OLD_MAC,
         fate: reordered,
         ..WELL
     },

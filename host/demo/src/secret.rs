@@ -1,6 +1,7 @@
 //! What the SPDM handshake gives to both ends for one key.
 use crate::Rng;
 use cipher::{Aead, Suite, KEY};
+use husk::Setting;
 
 /// A key and its IV. No key is used again after a change.
 #[derive(Clone)]
@@ -23,8 +24,12 @@ impl Secret {
         self.iv
     }
 
-    /// The cipher under this key.
-    pub fn aead(&self) -> Aead {
-        Aead::new(Suite::Aes256Gcm, &self.key)
+    /// The cipher under this key, for a channel that was opened with this setting.
+    ///
+    /// # Panics
+    /// Where no channel can be: AES-256-GCM has every MAC length that Open takes.
+    pub fn aead(&self, setting: Setting) -> Aead {
+        let aead = Aead::with_tag(Suite::Aes256Gcm, &self.key, setting.mac.into());
+        aead.expect("an opened channel has a known MAC length")
     }
 }

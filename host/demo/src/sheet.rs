@@ -1,5 +1,5 @@
 //! The docking sheet.
-use crate::{Controller, Element, Tally};
+use crate::{Controller, Element, Tally, OLD_MAC};
 use husk::{Refusal, LAYOUT_BIG};
 use std::fmt;
 
@@ -10,6 +10,8 @@ pub struct Row {
     pub session: u32,
     /// The layout of its nonces.
     pub layout: u8,
+    /// How many bytes its MAC has.
+    pub mac: u8,
     /// What became of its deliveries.
     pub tally: Tally,
     /// The gap count of its current key.
@@ -23,6 +25,7 @@ impl Row {
         Ok(Row {
             session: element.session(),
             layout: element.layout(),
+            mac: element.mac(),
             tally: element.tally(),
             gaps: controller.gaps(element)?,
             lit: element.is_lit(),
@@ -64,6 +67,11 @@ impl Sheet {
         self.those(|row| row.layout == LAYOUT_BIG)
     }
 
+    /// The elements whose board is of the first series: their MAC is shorter.
+    pub fn first_series(&self) -> Vec<usize> {
+        self.those(|row| row.mac == OLD_MAC)
+    }
+
     fn those(&self, such: fn(&Row) -> bool) -> Vec<usize> {
         (0..self.rows.len())
             .filter(|element| such(&self.rows[*element]))
@@ -97,6 +105,7 @@ impl fmt::Display for Sheet {
             )?;
         }
         writeln!(f, "second maker: {}", list(&self.second_maker()))?;
+        writeln!(f, "first series: {}", list(&self.first_series()))?;
         writeln!(f, "dark: {}", list(&self.dark()))
     }
 }

@@ -1,7 +1,7 @@
 //! One element: two keys at once, and what is forged or not for it.
 use demo::{Board, Controller, Element, Reading, Rng, Secret, Tally};
 use husk::wrapping::read_message;
-use husk::{Refusal, Setting, CURRENT, HEADER};
+use husk::{Refusal, Setting, CURRENT, HEADER, MAC, MACS};
 
 /// The Session ID behind the message's type byte: it says whose a message is.
 const SESSION: std::ops::Range<usize> = 1..5;
@@ -15,8 +15,15 @@ struct Pair {
 
 impl Pair {
     fn new() -> Pair {
+        Pair::with_mac(MAC as u8)
+    }
+
+    fn with_mac(mac: u8) -> Pair {
         let mut rng = Rng::new(7);
-        let setting = Setting::new(husk::ENCRYPTED, 0x1122_3344, u64::MAX);
+        let setting = Setting {
+            mac,
+            ..Setting::new(husk::ENCRYPTED, 0x1122_3344, u64::MAX)
+        };
         let [secret, back] = [Secret::agree(&mut rng), Secret::agree(&mut rng)];
         let mut controller = Controller::new();
         assert_eq!(controller.open(setting, &secret, &back), Ok(0));
@@ -90,9 +97,8 @@ fn a_refused_key_change_changes_nothing() {
     pair.deliver(&fresh, 2, 0, 0);
 }
 
-#[test]
-fn no_forged_record_blocks_the_true_one() {
-    let mut pair = Pair::new();
+/// Delivers a message with each byte changed, and cut at each place, before the message itself.
+fn forge_each_byte(mut pair: Pair) {
     let (message, _) = pair.send();
     // The type byte and the Session ID say whose a message is, so these copies are no element's.
     let (mut strays, mut others) = (0, 0);
@@ -114,6 +120,13 @@ fn no_forged_record_blocks_the_true_one() {
     pair.deliver(&message, 1, 0, others);
     pair.deliver(&message, 1, 1, others);
     assert_eq!((pair.controller.poll(), pair.controller.poll()), (1, 0));
+}
+
+#[test]
+fn no_forged_record_blocks_the_true_one() {
+    for mac in MACS {
+        forge_each_byte(Pair::with_mac(mac));
+    }
 }
 
 #[test]

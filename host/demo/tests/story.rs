@@ -1,6 +1,7 @@
 //! The story, period by period, and each part of it for its own reason.
-use demo::{Bay, Board, Controller, Rng, Row, Secret, Sheet, Tally, ELEMENTS, PERIODS, PLANS};
-use husk::{Offered, Refusal, Setting, CURRENT, LAYOUT_BIG, LAYOUT_LITTLE, OLD};
+use demo::{Bay, Board, Controller, Rng, Row, Secret, Sheet, Tally};
+use demo::{ELEMENTS, OLD_MAC, PERIODS, PLANS};
+use husk::{Offered, Refusal, Setting, CURRENT, LAYOUT_BIG, LAYOUT_LITTLE, MACS, OLD};
 
 fn hung() -> Vec<usize> {
     (0..ELEMENTS)
@@ -42,6 +43,7 @@ fn the_nine_go_dark_and_no_other() {
         }
     }
     the_second_maker_is_read(&bay, last);
+    the_first_series_is_read(&bay, last);
     the_turn_is_passed(&bay, last);
     the_key_is_changed(&bay, last);
     forged_records_are_counted(last);
@@ -78,6 +80,20 @@ fn the_second_maker_is_read(bay: &Bay, rows: &[Row]) {
     assert_eq!((rows[0].tally, rows[0].layout), (tally, LAYOUT_BIG));
     let [even, odd] = [120, 121].map(|number| probe(bay, 0, number).unwrap().nonce);
     assert_eq!((&even[..11], even[11]), (&odd[..11], odd[11] ^ 1));
+}
+
+/// Element 12: its MAC is the last 8 bytes of a record, not 16, and all its records are handed out but one,
+/// which is late when the story ends.
+fn the_first_series_is_read(bay: &Bay, rows: &[Row]) {
+    let sheet = Sheet::of(bay.controller()).unwrap();
+    assert_eq!(sheet.first_series(), vec![12]);
+    let tally = Tally {
+        handed: 119,
+        ..Tally::default()
+    };
+    assert_eq!((rows[12].tally, rows[12].mac), (tally, OLD_MAC));
+    let [old, usual] = [12, 11].map(|element| probe(bay, element, 200).unwrap().text);
+    assert_eq!(old - usual, 16 - usize::from(OLD_MAC));
 }
 
 /// Element 3: of 65,480 records every 50th arrived; of the 120 after them 7 are lost, and the last one is
@@ -135,21 +151,21 @@ fn every_row_is_its_own(controller: &Controller) {
     assert_eq!(controller.strays(), 0);
 }
 
+/// Both modes in both layouts, with each MAC length.
+fn settings() -> impl Iterator<Item = Setting> {
+    let modes = [husk::AUTHENTICATED, husk::ENCRYPTED].map(|mode| Setting::new(mode, 0, 50));
+    let laid = modes.into_iter().flat_map(|setting| {
+        [LAYOUT_LITTLE, LAYOUT_BIG].map(|layout| Setting { layout, ..setting })
+    });
+    laid.flat_map(|setting| MACS.map(|mac| Setting { mac, ..setting }))
+}
+
 #[test]
 fn what_is_handed_out_is_what_was_measured() {
     let mut rng = Rng::new(1);
     let mut controller = Controller::new();
-    let kinds = [
-        (husk::AUTHENTICATED, LAYOUT_LITTLE),
-        (husk::AUTHENTICATED, LAYOUT_BIG),
-        (husk::ENCRYPTED, LAYOUT_LITTLE),
-        (husk::ENCRYPTED, LAYOUT_BIG),
-    ];
-    for (session, (mode, layout)) in (0x1122_3344..).zip(kinds) {
-        let setting = Setting {
-            layout,
-            ..Setting::new(mode, session, 50)
-        };
+    for (session, setting) in (0x1122_3344..).zip(settings()) {
+        let setting = Setting { session, ..setting };
         let [secret, back] = [Secret::agree(&mut rng), Secret::agree(&mut rng)];
         let mut board = Board::new(setting, &secret, rng.split()).unwrap();
         let place = controller.open(setting, &secret, &back).unwrap();
