@@ -8,6 +8,8 @@ fn main() {
     records::both_modes();
     records::nonce();
     sizes::largest();
+    sizes::largest_with_8();
+    sizes::largest_with_12();
     sizes::smallest();
     wrapping::inner();
     wrapping::outer();

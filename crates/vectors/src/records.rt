@@ -62,14 +62,8 @@ pub(crate) fn nonce() {
 
 fn nonce_in(name: &[u8], layout: u8, number: u64) {
     let iv = [0, 1, 2, 3, 4, 5, 6, 7, 8, 9, 10, 11];
-    let page = setting(0);
-    let chosen = Setting {
-        mode: page.mode,
-        layout: layout,
-        mac: page.mac,
-        session: page.session,
-        limit: page.limit,
-    };
+    let mut chosen = setting(0);
+    chosen.layout = layout;
     let n = record::nonce(chosen, iv, number);
     print::text(name);
     print::bytes(&n);

@@ -3,12 +3,20 @@ use crate::print;
 use crate::records;
 use channel::Receiver;
 use channel::Sender;
+use record::Setting;
+
+// How a channel is set whose MAC has `mac` bytes.
+fn with_mac(mode: u8, mac: u8) -> Setting {
+    let mut chosen = records::setting(mode);
+    chosen.mac = mac;
+    chosen
+}
 
 // The answer and the total of a Build of p bytes of data and q random bytes.
-fn size(name: &[u8], mode: u8, p: usize, q: usize) {
+fn size(name: &[u8], setting: Setting, p: usize, q: usize) {
     let source = [0u8; 65536];
     let mut out = [0u8; 65543];
-    let s = Sender::open(records::setting(mode), [0; 12]).next;
+    let s = Sender::open(setting, [0; 12]).next;
     let app = octets::part(&source, 0, p);
     let random = octets::part(&source, 0, q);
     let built = s.build(app, random, &mut out);
@@ -21,10 +29,29 @@ fn size(name: &[u8], mode: u8, p: usize, q: usize) {
 }
 
 pub(crate) fn largest() {
-    size(b"mode 0, P = 65519", 0, 65519, 0);
-    size(b"mode 0, P = 65520", 0, 65520, 0);
-    size(b"mode 1, P + R = 65517", 1, 65000, 517);
-    size(b"mode 1, P + R = 65518", 1, 65000, 518);
+    size(b"mode 0, P = 65519", records::setting(0), 65519, 0);
+    size(b"mode 0, P = 65520", records::setting(0), 65520, 0);
+    size(b"mode 1, P + R = 65517", records::setting(1), 65000, 517);
+    size(b"mode 1, P + R = 65518", records::setting(1), 65000, 518);
+}
+
+// The same with the shorter MACs (request c).
+pub(crate) fn largest_with_8() {
+    let clear = with_mac(0, 8);
+    let hidden = with_mac(1, 8);
+    size(b"MAC of 8, mode 0, P = 65527", clear, 65527, 0);
+    size(b"MAC of 8, mode 0, P = 65528", clear, 65528, 0);
+    size(b"MAC of 8, mode 1, P + R = 65525", hidden, 65000, 525);
+    size(b"MAC of 8, mode 1, P + R = 65526", hidden, 65000, 526);
+}
+
+pub(crate) fn largest_with_12() {
+    let clear = with_mac(0, 12);
+    let hidden = with_mac(1, 12);
+    size(b"MAC of 12, mode 0, P = 65523", clear, 65523, 0);
+    size(b"MAC of 12, mode 0, P = 65524", clear, 65524, 0);
+    size(b"MAC of 12, mode 1, P + R = 65521", hidden, 65000, 521);
+    size(b"MAC of 12, mode 1, P + R = 65522", hidden, 65000, 522);
 }
 
 // Settles a record of Length 18 whose text says that its data has `n` bytes, and answers the next state.
