@@ -26,7 +26,8 @@ use Rattle.promises.specs.SendRun.{turnsIn, under, from}
 use Rattle.promises.specs.World.{Step, Sent, start, Each, handedIn, HandsSealed, worldAfter, Cipher}
 use Rattle.rows.specs.Ends.{Ends, freeEnds, isFree, idOf}
 use Rattle.controller.specs.Table.{rowAt, clashes}
-use Rattle.controller.specs.Doors.{Door, session, number, idIn, shortest, place, doorRows}
+use Rattle.record.specs.Shape.{headLen, shortest}
+use Rattle.controller.specs.Doors.{Door, session, number, idIn, place, doorRows}
 use Rattle.controller.specs.Calls.{TableCall, leave, receive, rowTo, openIn, closeIn, receiveIn, buildIn, buildOutIn, turnIn, tableAfter}
 use Rattle.bay.specs.Reach.{target, codeIn, checksOf, reaches}
 use Rattle.bay.specs.Reasons.{Free, Open, Has, Clash, doorReasons, newReasons}
@@ -111,13 +112,15 @@ session-reaches = Reaching.session-reaches
 pub row-answers : (i : ℕ) (t : List Ends) (d : Door) (c : Call) → reaches i t (receive d c) ≡ true → receiveIn t d c ≡ answerTo (rowAt t i .receiver) c
 row-answers = PerRow.row-answers
 
--- An Offer or a Settle that is delivered by the very record that it carries is never Short nor Session in its row.
-pub offer-ours : (t : List Ends) (r : List ℕ) → first (doorRows t (session r)) ≡ 0 → (slot : ℕ)
-    → let k = answerTo (rowTo t (session r) .receiver) (offer r slot) .code in (k ≢ Refusal.Short) × (k ≢ Refusal.Session)
+-- An Offer or a Settle that is delivered by the very record that it carries is never Session in its row, and Short only where the record is
+-- shorter than that row's own header (request h: the table's own Short is under 6 bytes for every row).
+pub offer-ours : (t : List Ends) (r : List ℕ) → first (doorRows t (session r)) ≡ 0 → (slot : ℕ) → let x = rowTo t (session r) .receiver in
+    let k = answerTo x (offer r slot) .code in (headLen (x .setting) ≤ length r → k ≢ Refusal.Short) × (k ≢ Refusal.Session)
 offer-ours = Never.offer-ours
 
 pub settle-ours : (t : List Ends) (r : List ℕ) → first (doorRows t (session r)) ≡ 0 → (slot count n : ℕ) (passed : Bool) (plain : List ℕ)
-    → let k = answerTo (rowTo t (session r) .receiver) (settle r slot count n passed plain) .code in (k ≢ Refusal.Short) × (k ≢ Refusal.Session)
+    → let x = rowTo t (session r) .receiver in
+    let k = answerTo x (settle r slot count n passed plain) .code in (headLen (x .setting) ≤ length r → k ≢ Refusal.Short) × (k ≢ Refusal.Session)
 settle-ours = Never.settle-ours
 
 -- ======== Delivering changes only its row. (Of every call, in every table, good or bad.)

@@ -7,7 +7,7 @@ use mathlib.Core.Logic.{_≢_, inr}
 use mathlib.Core.List.{List, List·Memᴰ, List·Memᴰ·head, List·Memᴰ·eq-of-singleton}
 use native.Mathlib.Omega.{arith}
 use lib.ListN.{getD}
-use Rattle.record.specs.Setting.{sameSetting, isZeroSetting}
+use Rattle.record.specs.Shape.{shortest}
 use Rattle.channel.specs.Receiver.{isZeroReceiver}
 use Rattle.channel.specs.Sender.{isZeroSender}
 use Rattle.promises.proofs.Computed.{runs}
@@ -31,7 +31,7 @@ use Rattle.bay.proofs.EveryRun.{every-run}
 
 -- what a run of the table computes through, above what `runs` opens
 unfoldable tableOpen : Unit {0}
-unfolding isFree isSplit isZeroReceiver isZeroSender isZeroSetting sameSetting some lowest has clashes place doorRows newRows openIn closeIn receiveIn tableAfter codeIn
+unfolding isFree isSplit isZeroReceiver isZeroSender shortest some lowest has clashes place doorRows newRows openIn closeIn receiveIn tableAfter codeIn
 tableOpen = tt
 
 -- ---- T4's assumptions

@@ -1,6 +1,6 @@
 -- Answers that never occur; so a record that is delivered by its Session ID is not Short nor Session in its row.
 -- Assumes nothing.
-use Prim.Native.Nat.{ℕ}
+use Prim.Native.Nat.{ℕ, _≤_}
 use mathlib.Core.Path.{_≡_, sym}
 use mathlib.Core.Logic.{_≢_}
 use mathlib.Core.Bool.{Bool, true, false}
@@ -33,18 +33,17 @@ never-code x c k z h = rw (code-of x c) (never k z (rows (look x) c) h)
 -- ---- a record that was delivered by its own Session ID
 
 module _ (t : List Ends) (r : List ℕ) (e : first (doorRows t (session r)) ≡ 0) where
-  long : ltb (length r) 8 ≡ false
-  long = le-ltb (length r) 8 (session-through t r e .0)
-
   ours : eqb (field r 0 4) (idOf (rowTo t (session r))) ≡ true
   ours = eq-eqb _ _ (sym (session-through t r e .1 .1))
 
-  pub offer-ours : (slot : ℕ) → let k = answerTo (rowTo t (session r) .receiver) (offer r slot) .code in (k ≢ Refusal.Short) × (k ≢ Refusal.Session)
-  unfolding rows offerRows slotRows stateRows recordRows placeRows numberRows headLen sessionOf look
-  offer-ours slot = (never-code _ _ Refusal.Short (λ z. omega arith) (rw long), never-code _ _ Refusal.Session (λ z. omega arith) (rw ours))
+  pub offer-ours : (slot : ℕ) → let x = rowTo t (session r) .receiver in let k = answerTo x (offer r slot) .code in
+      (headLen (x .setting) ≤ length r → k ≢ Refusal.Short) × (k ≢ Refusal.Session)
+  unfolding rows offerRows slotRows stateRows recordRows placeRows numberRows sessionOf look
+  offer-ours slot =
+      (λ h. never-code _ _ Refusal.Short (λ z. omega arith) (rw (le-ltb _ _ h)), never-code _ _ Refusal.Session (λ z. omega arith) (rw ours))
 
-  pub settle-ours : (slot count number : ℕ) (passed : Bool) (plain : List ℕ)
-      → let k = answerTo (rowTo t (session r) .receiver) (settle r slot count number passed plain) .code in (k ≢ Refusal.Short) × (k ≢ Refusal.Session)
-  unfolding rows offerRows slotRows stateRows recordRows placeRows numberRows cipherRows markingRows headLen sessionOf look
+  pub settle-ours : (slot count number : ℕ) (passed : Bool) (plain : List ℕ) → let x = rowTo t (session r) .receiver in
+      let k = answerTo x (settle r slot count number passed plain) .code in (headLen (x .setting) ≤ length r → k ≢ Refusal.Short) × (k ≢ Refusal.Session)
+  unfolding rows offerRows slotRows stateRows recordRows placeRows numberRows cipherRows markingRows sessionOf look
   settle-ours slot count number passed plain =
-      (never-code _ _ Refusal.Short (λ z. omega arith) (rw long), never-code _ _ Refusal.Session (λ z. omega arith) (rw ours))
+      (λ h. never-code _ _ Refusal.Short (λ z. omega arith) (rw (le-ltb _ _ h)), never-code _ _ Refusal.Session (λ z. omega arith) (rw ours))

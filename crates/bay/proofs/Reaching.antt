@@ -10,7 +10,8 @@ use Rattle.answers.specs.Reasons.{Tells}
 use Rattle.channel.specs.Call.{Call}
 use Rattle.rows.specs.Ends.{Ends, isFree, isOpen}
 use Rattle.controller.specs.Table.{rowAt, clashes}
-use Rattle.controller.specs.Doors.{session, number, idIn, shortest, place, doorRows}
+use Rattle.record.specs.Shape.{shortest}
+use Rattle.controller.specs.Doors.{session, number, idIn, place, doorRows}
 use Rattle.controller.specs.Calls.{receive}
 use Rattle.bay.specs.Reach.{target, checksOf, reaches}
 use Rattle.bay.specs.Reasons.{Open, Has}

@@ -16,7 +16,8 @@ use Rattle.record.specs.Setting.{openRows}
 use Rattle.record.specs.declared.setting.Setting.{Setting}
 use Rattle.rows.specs.Ends.{Ends, isFree, isOpen, idOf}
 use Rattle.controller.specs.Table.{rowAt, some, lowest, has}
-use Rattle.controller.specs.Doors.{Door, session, number, idIn, shortest, place, doorRows, newRows}
+use Rattle.record.specs.Shape.{shortest}
+use Rattle.controller.specs.Doors.{Door, session, number, idIn, place, doorRows, newRows}
 use Rattle.controller.specs.Calls.{rowTo}
 use Rattle.bay.specs.Reasons.{Has}
 use Rattle.bay.proofs.Rows.{lowest-found}

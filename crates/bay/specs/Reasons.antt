@@ -12,7 +12,8 @@ use Rattle.record.specs.Reasons.{openReasons}
 use Rattle.record.specs.declared.setting.Setting.{Setting}
 use Rattle.rows.specs.Ends.{Ends, isFree, isOpen, idOf}
 use Rattle.controller.specs.Table.{rowAt}
-use Rattle.controller.specs.Doors.{Door, session, number, idIn, shortest}
+use Rattle.record.specs.Shape.{shortest}
+use Rattle.controller.specs.Doors.{Door, session, number, idIn}
 
 -- ---- of a row
 

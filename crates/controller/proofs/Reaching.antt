@@ -14,7 +14,8 @@ use Rattle.answers.proofs.Table.{unmarking}
 use Rattle.rows.specs.Ends.{Ends, isFree, endsOf}
 use Rattle.controller.specs.declared.door.Reached.{Reached}
 use Rattle.controller.specs.Table.{rowAt, some, lowest, has, clashes}
-use Rattle.controller.specs.Doors.{Door, session, number, idIn, shortest, place, doorRows}
+use Rattle.record.specs.Shape.{shortest}
+use Rattle.controller.specs.Doors.{Door, session, number, idIn, place, doorRows}
 use Rattle.controller.specs.Calls.{rowTo}
 use Rattle.controller.specs.Words.{noRow, reachedIn, rowsOf, wordsAt}
 use Rattle.controller.proofs.Scanning.{row-at, none-at}

@@ -9,6 +9,7 @@ use Rattle.answers.specs.Refusal as Refusal
 use Rattle.answers.specs.Table.{Check}
 use Rattle.octets.specs.Fields.{field}
 use Rattle.record.specs.Setting.{openRows}
+use Rattle.record.specs.Shape.{shortest}
 use Rattle.record.specs.declared.setting.Setting.{Setting}
 use Rattle.rows.specs.Ends.{Ends, isFree}
 use Rattle.controller.specs.Table.{rowAt, some, lowest, has, clashes}
@@ -22,10 +23,6 @@ pub data Door : Type 0 where
 -- the Session ID of a record: its first 4 bytes, whatever the channel's setting
 abbrev pub idIn : List ℕ → ℕ
 idIn r = field r 0 4
-
--- the length of the shortest header
-abbrev pub shortest : ℕ
-shortest = 8
 
 -- where it leads
 unfoldable pub place : List Ends → Door → ℕ

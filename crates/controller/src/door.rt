@@ -26,7 +26,7 @@ impl Reached {
 }
 
 // The length of the shortest header.
-const SHORTEST: usize = 8;
+const SHORTEST: usize = 6;
 
 // State, then Short, then Unknown.
 pub(crate) fn by_session(table: &[[u64; 20]], rec: &[u8]) -> Reached

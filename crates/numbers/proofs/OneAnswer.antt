@@ -12,6 +12,7 @@ use Rattle.numbers.proofs.window.Window.empty.Reads as empty
 use Rattle.numbers.proofs.window.Window.is_empty.Reads as is-empty
 use Rattle.numbers.proofs.window.Window.sound.Reads as sound
 use Rattle.numbers.proofs.window.Window.place.Reads as place
+use Rattle.numbers.proofs.window.Window.judge.Reads as judge
 use Rattle.numbers.proofs.window.Window.mark.Reads as mark
 use Rattle.numbers.proofs.window.Window.gaps.Reads as gaps
 
@@ -51,6 +52,9 @@ sound-one κs a x y s t p q = one p q
 
 pub place-one : OneAnswer place.Post (λ κs x s. x)
 place-one κs a x y s t p q = one p q
+
+pub judge-one : OneAnswer judge.Post (λ κs x s. x)
+judge-one κs a x y s t p q = one p q
 
 pub mark-one : OneAnswer mark.Post (λ κs x s. x)
 mark-one κs a x y s t p q = one p q

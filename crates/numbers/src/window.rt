@@ -135,7 +135,7 @@ impl Window {
     }
 
     // What becomes of a record with the number n.
-    fn judge(self, rule: Rule, n: u64) -> Placed
+    pub fn judge(self, rule: Rule, n: u64) -> Placed
         ensures { λ r. ⌜ r ≡ judged rule self n ⌝ }
     {
         let next = self.next;

@@ -29,7 +29,7 @@ use Rattle.numbers.specs.Number.{numberRows}
 use Rattle.record.proofs.Again.{number-again, number-other}
 use Rattle.record.specs.Header.{numberOf}
 use Rattle.record.specs.Read.{recordRows, placeRows}
-use Rattle.record.specs.Setting.{badSetting, openRows, ruleOf}
+use Rattle.record.specs.Setting.{hasPartial, badSetting, openRows, ruleOf}
 use Rattle.record.specs.declared.setting.Setting.{Setting}
 use Rattle.promises.specs.Run.{afterBy, reachBy, reached}
 use Rattle.promises.specs.Barred.{RepeatOrOld, Holds, nextIn, Barred}
@@ -236,16 +236,16 @@ module _ (x : Receiver) (p : Plain) (B : Both x p) (r : List ℕ) (c n e : ℕ) 
   unfolding plainLook
   good = rw (B .related .settings) at (B .related .good .accepted)
 
-  in-slot : (slot : ℕ) → Holds x slot c → nextIn x slot - n ≤ 32768
+  in-slot : hasPartial (x .setting) ≡ true → (slot : ℕ) → Holds x slot c → nextIn x slot - n ≤ 32768
       → (noKey (plainLook p) slot ≡ false) × (numberAt (plainLook p) r slot ≡ n) × (keyAt (plainLook p) slot .seen n ≡ true)
   unfolding plainLook
-  in-slot slot H l =
+  in-slot h slot H l =
       let k : noKey (plainLook p) slot ≡ false = sym (same-key (look x) (plainLook p) slot alike) ∙ H .0 in
       let q : countAt (plainLook p) slot ≡ c = sym (same-count (look x) (plainLook p) slot alike) ∙ H .1 in
       let s = seen-in p slot c n (eqb slot 0) refl (B .sane-plain) known k q in
       let f : nextIn x slot ≡ keyAt (plainLook p) slot .next = same-next (look x) (plainLook p) slot alike in
       let low : n < keyAt (plainLook p) slot .next = s .1 in
-      (k, number-again (p .setting) e (keyAt (plainLook p) slot .next) n r (was .number) low (omega arith), s .0)
+      (k, number-again (p .setting) (rw (B .related .settings) at h) e (keyAt (plainLook p) slot .next) n r (was .number) low (omega arith), s .0)
 
   barred : Barred x r c n
   unfolding answerTo plainLook look
@@ -253,15 +253,15 @@ module _ (x : Receiver) (p : Plain) (B : Both x p) (r : List ℕ) (c n e : ℕ) 
     never = λ a slot passed plain. code-false _ (λ t.
         let t′ = subst (λ (o : Outcome). authentic (o .answer .code) ≡ true) (plain-outcome (settle a slot c n passed plain)) t in
         unknown p a slot c n passed plain (B .sane-plain) (settle-passed (plainLook p) a slot c n passed plain t′) (eqb slot 0) refl known);
-    offers = λ slot H l.
-        let i = in-slot slot H l in
+    offers = λ h slot H l.
+        let i = in-slot h slot H l in
         subst (λ (o : Outcome). RepeatOrOld (o .answer .code)) (sym (plain-outcome (offer r slot)))
         (offer-again (plainLook p) r slot n good (i .0) (was .framed) (i .1) (was .spare) (i .2));
-    settles = λ slot H l count number passed plain.
-        let i = in-slot slot H l in
+    settles = λ h slot H l count number passed plain.
+        let i = in-slot h slot H l in
         subst (λ (o : Outcome). RepeatOrOld (o .answer .code)) (sym (plain-outcome (settle r slot count number passed plain)))
         (settle-again (plainLook p) r slot n good (i .0) (was .framed) (i .1) (was .spare) (i .2) count number passed plain);
-    other = λ slot l. number-other (x .setting) (nextIn x slot) n r (omega arith);
+    other = λ h slot l. number-other (x .setting) h (nextIn x slot) n r (omega arith);
     dropped = dropped-for-ever x c;
   }
 

@@ -10,6 +10,8 @@ use Rattle.channel.specs.Sender.{buildOut}
 use Rattle.channel.specs.declared.sender.Built.{Built}
 use Rattle.channel.specs.declared.sender.Sender.{Sender}
 use Rattle.octets.specs.Fields.{field}
+use Rattle.record.specs.Header.{lengthAt}
+use Rattle.record.specs.Shape.{headLen}
 use Rattle.record.specs.Write.{lengthFor, frontOf}
 use Rattle.record.specs.declared.setting.Setting.{Setting}
 use Rattle.record.proofs.Modes.{clear-mode, sealed-mode}
@@ -25,15 +27,15 @@ module _ (s : Sender) (app random out : List ℕ) (B : CanBuild s app random out
   abbrev t : Setting
   t = s .setting
 
-  text-clear : t .mode ≡ 0 → builtOf s app random out .text ≡ 8 + length app
+  text-clear : t .mode ≡ 0 → builtOf s app random out .text ≡ headLen t + length app
   text-clear m =
       let v = values t in
-      ap (λ (b : Built). b .text) (build-answers s app random out B) ∙ omega (arith, v .header, v .clear (clear-mode t m) (length app) (length random))
+      ap (λ (b : Built). b .text) (build-answers s app random out B) ∙ omega (arith, v .clear (clear-mode t m) (length app) (length random))
 
-  text-sealed : t .mode ≡ 1 → builtOf s app random out .text ≡ 10 + length app + length random
+  text-sealed : t .mode ≡ 1 → builtOf s app random out .text ≡ headLen t + 2 + length app + length random
   text-sealed m =
       let v = values t in
-      ap (λ (b : Built). b .text) (build-answers s app random out B) ∙ omega (arith, v .header, v .sealed (sealed-mode t m) (length app) (length random))
+      ap (λ (b : Built). b .text) (build-answers s app random out B) ∙ omega (arith, v .sealed (sealed-mode t m) (length app) (length random))
 
   -- page 01's table holds of Build's buffer at exit
   pub laid : Laid t (s .next) app random out (buildOut s app random out)
@@ -43,16 +45,16 @@ module _ (s : Sender) (app random out : List ℕ) (B : CanBuild s app random out
       let x = buildOut s app random out in
       let y = drop (length (frontOf t (s .next) app random)) out in
       let e = buffer-is s app random out (build-passes s app random out B) in
-      let len : field x 6 2 ≡ lengthFor t (length app) (length random) = length-row t (s .next) app random x y e (B .size) in
+      let len : field x (lengthAt t) 2 ≡ lengthFor t (length app) (length random) = length-row t (s .next) app random x y e (B .size) in
       record {
         session = session-row t (s .next) app random x y e (B .declared .session);
         low = low-row t (s .next) app random x y e;
         len-clear = λ m. len ∙ n .clear m (length app) (length random);
         len-sealed = λ m. len ∙ n .sealed m (length app) (length random);
-        inner = λ m. rw (v .header, v .inner) at (inner-row t (s .next) app random x y e (sealed-mode t m) (B .size));
-        data-clear = λ m. rw (v .header) at (data-clear-row t (s .next) app random x y e (clear-mode t m));
-        data-sealed = λ m. rw (v .header, v .inner) at (data-sealed-row t (s .next) app random x y e (sealed-mode t m));
-        random-next = λ m. rw (v .header, v .inner) at (random-row t (s .next) app random x y e (sealed-mode t m));
+        inner = λ m. rw (v .inner) at (inner-row t (s .next) app random x y e (sealed-mode t m) (B .size));
+        data-clear = λ m. data-clear-row t (s .next) app random x y e (clear-mode t m);
+        data-sealed = λ m. rw (v .inner) at (data-sealed-row t (s .next) app random x y e (sealed-mode t m));
+        random-next = λ m. rw (v .inner) at (random-row t (s .next) app random x y e (sealed-mode t m));
         unwritten-clear = λ m. rw (text-clear m) at (unwritten s app random out);
         unwritten-sealed = λ m. rw (text-sealed m) at (unwritten s app random out);
       }

@@ -76,6 +76,7 @@ page-numbers s h =
     record {
       most = v .most;
       head = v .header;
+      bare = v .bare;
       mac = m .0;
       macs = m .1;
       width = v .rule ∙ v .window;

@@ -9,6 +9,7 @@ use native.Mathlib.Omega.{arith}
 use lib.Dec.{eqb}
 use lib.ListN.{length, replicate}
 use borrow.Author.Tests.{eq-eqb, eqb-true}
+use Rattle.answers.proofs.Tests.{true-not-false}
 use Rattle.answers.proofs.Tests.{by-cases}
 use Rattle.channel.specs.Call.{Call, Answer, Outcome}
 use Rattle.channel.specs.Receiver.{newReceiver, answerTo}
@@ -55,7 +56,7 @@ can-take = record {
   alike = refl;
   there = inl refl;
   iv = refl;
-  reach = (omega arith, inl (omega arith));
+  reach = ((λ h. (omega arith, inl (omega arith))), (λ h. absurd (true-not-false refl h)));
   young = omega arith;
   fresh = refl;
 }

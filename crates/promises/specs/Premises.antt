@@ -11,8 +11,8 @@ use Rattle.channel.specs.Receiver.{keyOf}
 use Rattle.channel.specs.declared.receiver.Receiver.{Receiver}
 use Rattle.channel.specs.declared.sender.Sender.{Sender}
 use Rattle.numbers.specs.Contract.{widthOf, seenBy}
-use Rattle.numbers.specs.Whole.{Reached}
-use Rattle.record.specs.Setting.{ruleOf}
+use Rattle.record.specs.Setting.{hasPartial, ruleOf}
+use Rattle.record.specs.Header.{Found}
 use Rattle.record.specs.Shape.{headLen, macLen, mostLength}
 use Rattle.record.specs.Write.{lengthFor}
 use Rattle.record.specs.declared.setting.Setting.{Setting}
@@ -48,8 +48,8 @@ pub record CanTake (r : Receiver) (slot : ℕ) (s : Sender) : Type 0 where
   pub there : (slot ≡ 0) ⊎ ((slot ≡ 1) × (r .held ≡ true))
   -- the sender's IV is in that slot
   pub iv : keyOf r slot .iv ≡ s .iv
-  -- exactly where the number worked out from the low 16 bits is n: E ≤ n + 32768, and n ≤ E + 32767 or n ≤ 65535
-  pub reach : Reached (keyOf r slot .window .next) (s .next)
+  -- exactly where the number worked out is n. With partial numbers: E ≤ n + 32768, and n ≤ E + 32767 or n ≤ 65535. Without: n is E
+  pub reach : Found (s .setting) (keyOf r slot .window .next) (s .next)
   -- E - n is at most 64
   pub young : keyOf r slot .window .next - s .next ≤ widthOf (ruleOf (r .setting))
   -- n is not marked
@@ -61,7 +61,8 @@ pub record CanTake (r : Receiver) (slot : ℕ) (s : Sender) : Type 0 where
 -- in mode 0 and in mode 1. Page 01's MAC of 16 bytes is one of the three.
 pub record PageNumbers (s : Setting) : Type 0 where
   pub most : mostLength s ≡ 65535
-  pub head : headLen s ≡ 8
+  pub head : hasPartial s ≡ true → headLen s ≡ 8
+  pub bare : hasPartial s ≡ false → headLen s ≡ 6
   pub mac : macLen s ≡ s .mac
   pub macs : (s .mac ≡ 8) ⊎ (s .mac ≡ 12) ⊎ (s .mac ≡ 16)
   pub width : widthOf (ruleOf s) ≡ 64

@@ -13,6 +13,7 @@ use Rattle.answers.specs.Table.{first}
 use Rattle.answers.proofs.Table.{first-past, first-stop, row-passed}
 use Rattle.answers.proofs.Given.{given-no, why-is, ok-is}
 use Rattle.octets.specs.Parts.{over}
+use Rattle.record.proofs.Heads.{head-most}
 use Rattle.record.specs.declared.setting.Setting.{Setting}
 use Rattle.record.specs.declared.writer.Form.{Form}
 use Rattle.record.specs.Shape.{headLen, macLen, innerLen, mostLength}
@@ -26,8 +27,8 @@ pub record Small (s : Setting) : Type 0 where
   pub most : mostLength s ≤ 4294967295
 
 pub small : (s : Setting) → Small s
-unfolding headLen macLen innerLen mostLength
-small s = record { head = omega arith; mac = omega arith; inner = omega arith; most = omega arith }
+unfolding macLen innerLen mostLength
+small s = record { head = omega (arith, head-most s); mac = omega arith; inner = omega arith; most = omega arith }
 
 -- more data than the Length can say is too much in each mode
 pub long-data : (t : Bool) (i p q m k : ℕ) → k < p → k < cond t p (i + p + q) + m

@@ -7,16 +7,16 @@ use mathlib.Core.Path.{_≡_, refl, sym, ap, _∙_}
 use native.Mathlib.Omega.{arith}
 use lib.ListN.{length, take, drop, length-append}
 use lib.Seq.{take-at, drop-at}
-use Rattle.numbers.specs.Whole.{Reached}
+use Rattle.numbers.specs.Number.{nearest}
 use Rattle.numbers.proofs.Nearest.{near-exactly}
-use Rattle.octets.specs.Fields.{little}
+use Rattle.octets.specs.Fields.{field, little}
 use Rattle.octets.proofs.Endian.{field-behind, field-little, field-at}
 use Rattle.record.specs.declared.setting.Setting.{Setting}
-use Rattle.record.specs.Setting.{authOnly}
-use Rattle.record.specs.Header.{sessionOf, partialOf, lengthOf, headOf, numberOf}
+use Rattle.record.specs.Setting.{authOnly, hasPartial}
+use Rattle.record.specs.Header.{sessionOf, partialOf, lengthAt, lengthOf, partialFor, headOf, numberOf, Found}
 use Rattle.record.specs.Shape.{headLen, macLen, innerLen, mostLength, plainLen, startOf}
 use Rattle.record.specs.Write.{bodyLen, lengthFor, textEndFor, assocEndFor, totalFor, bodyOf, frontOf}
-use Rattle.record.proofs.Writes.{head-length}
+use Rattle.record.proofs.Heads.{head-length, before-length, partial-head}
 use Rattle.record.proofs.Sizes.{body-length, same-text}
 
 -- ---- the header
@@ -25,22 +25,34 @@ module _ (s : Setting) (n len : ℕ) (rest : List ℕ) where
   -- the Session ID that was written is read
   pub head-session : s .session < 2 ^ 32 → sessionOf s (headOf s n len ++ rest) ≡ s .session
   unfolding sessionOf headOf
-  head-session h = field-at [] 4 (s .session) (little 2 n ++ (little 2 len ++ rest)) h
+  head-session h =
+      ap (λ (x : List ℕ). field x 0 4) (ap (λ (x : List ℕ). x ++ rest) (append-assoc (little 4 (s .session)) (partialFor s n) (little 2 len)) ∙ append-assoc (little 4 (s .session)) (partialFor s n ++ little 2 len) rest)
+      ∙ field-at [] 4 (s .session) ((partialFor s n ++ little 2 len) ++ rest) h
 
-  -- of the number its low 16 bits
-  pub head-partial : partialOf s (headOf s n len ++ rest) ≡ n % 65536
-  unfolding partialOf headOf
-  head-partial = field-behind (little 4 (s .session)) (little 2 n ++ (little 2 len ++ rest)) 2 ∙ field-little 2 n (little 2 len ++ rest)
+  -- of the number its low 16 bits, where they are written
+  pub head-partial : hasPartial s ≡ true → partialOf s (headOf s n len ++ rest) ≡ n % 65536
+  unfolding partialOf
+  head-partial p =
+      rw (partial-head s n len p)
+      (field-behind (little 4 (s .session)) (little 2 n ++ (little 2 len ++ rest)) 2 ∙ field-little 2 n (little 2 len ++ rest))
 
   -- and the Length, where its field holds it
   pub head-total : len ≤ mostLength s → lengthOf s (headOf s n len ++ rest) ≡ len
   unfolding lengthOf headOf mostLength
-  head-total h = field-at (little 4 (s .session) ++ little 2 n) 2 len rest (omega arith)
+  head-total h =
+      let front : List ℕ = little 4 (s .session) ++ partialFor s n in
+      ap (λ (x : List ℕ). field x (lengthAt s) 2) (append-assoc front (little 2 len) rest)
+      ∙ ap (λ (k : ℕ). field (front ++ (little 2 len ++ rest)) k 2) (sym (before-length s n))
+      ∙ field-at front 2 len rest (omega arith)
 
-  -- within reach the number that was written is found
-  pub head-number : (e : ℕ) → Reached e n → numberOf s e (headOf s n len ++ rest) ≡ n
+  -- where a record with that number is taken for it, it is found
+  pub head-number : (e : ℕ) → Found s e n → numberOf s e (headOf s n len ++ rest) ≡ n
   unfolding numberOf
-  head-number e h = rw head-partial (near-exactly e n .1 h)
+  head-number e h = go (hasPartial s) refl
+    where
+      go : (b : Bool) → hasPartial s ≡ b → cond b (nearest e (partialOf s (headOf s n len ++ rest))) e ≡ n
+      go true p = ap (nearest e) (head-partial p) ∙ near-exactly e n .1 (h .0 p)
+      go false p = h .1 p
 
 -- ---- the body
 

@@ -1,3 +1,4 @@
+pub mod Heads
 pub mod Forms
 pub mod Sizes
 pub mod Writes

@@ -10,11 +10,11 @@ use lib.Seq.{take-at, drop-at}
 use Rattle.octets.specs.Fields.{field, little}
 use Rattle.octets.proofs.Endian.{field-at, little-length}
 use Rattle.record.specs.declared.setting.Setting.{Setting}
-use Rattle.record.specs.Setting.{authOnly}
-use Rattle.record.specs.Header.{sessionOf, partialOf, lengthOf, headOf}
+use Rattle.record.specs.Setting.{authOnly, hasPartial}
+use Rattle.record.specs.Header.{sessionOf, partialOf, lengthAt, lengthOf, headOf}
 use Rattle.record.specs.Shape.{headLen, innerLen, mostLength}
 use Rattle.record.specs.Write.{lengthFor, bodyOf, frontOf}
-use Rattle.record.proofs.Writes.{head-length}
+use Rattle.record.proofs.Heads.{head-length}
 use Rattle.record.proofs.Fronts.{head-session, head-partial, head-total, body-clear, body-sealed, inner-holds}
 
 -- the part of a list behind its first k
@@ -44,13 +44,13 @@ module _ (s : Setting) (n : ℕ) (app random out tail : List ℕ) (e : out ≡ f
   unfolding sessionOf
   session-row h = rw starts (head-session s n len (bodyOf s app random ++ tail) h)
 
-  -- offset 4, 2 bytes: the low 16 bits of the number
-  pub low-row : field out 4 2 ≡ n % 65536
+  -- offset 4, 2 bytes, where the profile has a partial number: the low 16 bits of the number
+  pub low-row : hasPartial s ≡ true → field out 4 2 ≡ n % 65536
   unfolding partialOf
-  low-row = rw starts (head-partial s n len (bodyOf s app random ++ tail))
+  low-row p = rw starts (head-partial s n len (bodyOf s app random ++ tail) p)
 
-  -- offset 6, 2 bytes: Length
-  pub length-row : len ≤ mostLength s → field out 6 2 ≡ len
+  -- behind it, 2 bytes: Length
+  pub length-row : len ≤ mostLength s → field out (lengthAt s) 2 ≡ len
   unfolding lengthOf
   length-row h = rw starts (head-total s n len (bodyOf s app random ++ tail) h)
 

@@ -9,13 +9,15 @@ use mathlib.Core.Path.{_≡_, refl}
 use native.Mathlib.Omega.{arith}
 use Rattle.numbers.specs.Contract.{widthOf}
 use Rattle.record.specs.declared.setting.Setting.{Setting}
-use Rattle.record.specs.Setting.{authOnly, badSetting, windowWidth, ruleOf}
+use Rattle.record.specs.Setting.{authOnly, hasPartial, badSetting, windowWidth, ruleOf}
 use Rattle.record.specs.Shape.{headLen, shortest, macLen, innerLen, mostLength, least}
 use Rattle.record.specs.Write.{bodyLen, lengthFor}
+use Rattle.record.proofs.Heads.{head-least, partial-length, bare-length}
 use Rattle.record.proofs.Told.{bad-setting}
 
 pub record Values (s : Setting) : Type 0 where
-  pub header : headLen s ≡ 8
+  pub header : hasPartial s ≡ true → headLen s ≡ 8
+  pub bare : hasPartial s ≡ false → headLen s ≡ 6
   pub inner : innerLen s ≡ 2
   pub most : mostLength s ≡ 65535
   pub window : windowWidth s ≡ 64
@@ -31,14 +33,15 @@ pub record Values (s : Setting) : Type 0 where
   pub sealed : authOnly s ≡ false → (p q : ℕ) → lengthFor s p q ≡ 2 + p + q + macLen s
 
 pub values : (s : Setting) → Values s
-unfolding headLen shortest innerLen mostLength least windowWidth widthOf bodyLen
+unfolding shortest innerLen mostLength least windowWidth widthOf bodyLen
 values s = record {
-  header = refl;
+  header = partial-length s;
+  bare = bare-length s;
   inner = refl;
   most = refl;
   window = refl;
   rule = refl;
-  short = omega arith;
+  short = head-least s;
   least-clear = λ a. rw a;
   least-sealed = λ a. rw a;
   clear = λ a p q. rw a;
@@ -68,4 +71,4 @@ mac-chosen s g = go (eqb (s .mac) 8) (eqb (s .mac) 12) (eqb (s .mac) 16) refl re
     go false true c p q r = let e : s .mac ≡ 12 = eqb-true _ _ q in (omega arith, inr (inl e))
     go false false true p q r = let e : s .mac ≡ 16 = eqb-true _ _ r in (omega arith, inr (inr e))
     go false false false p q r =
-        absurd (bad-setting s .fails g (inl (inr ((eqb-false _ _ p, eqb-false _ _ q), eqb-false _ _ r))))
+        absurd (bad-setting s .fails g (inl (inl (inr ((eqb-false _ _ p, eqb-false _ _ q), eqb-false _ _ r)))))

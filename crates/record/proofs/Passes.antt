@@ -18,7 +18,7 @@ use Rattle.record.specs.Header.{lengthOf, headOf, numberOf}
 use Rattle.record.specs.Read.{recordRows, placeRows}
 use Rattle.record.specs.Shape.{headLen, macLen, innerLen, mostLength, least, totalOf, plainLen, dataLen, innerBad}
 use Rattle.record.specs.Write.{bodyLen, lengthFor}
-use Rattle.record.proofs.Writes.{head-length}
+use Rattle.record.proofs.Heads.{head-length}
 use Rattle.record.proofs.Fronts.{head-session, head-total, inner-holds, textFor, text-sealed}
 
 -- ---- 4 to 7

@@ -19,7 +19,7 @@ use Rattle.record.specs.Shape.{headLen, macLen, innerLen, mostLength, st
 use Rattle.record.specs.View.{viewOf}
 use Rattle.record.specs.Write.{lengthFor}
 use Rattle.record.proofs.Modes.{good-mode}
-use Rattle.record.proofs.Writes.{head-length}
+use Rattle.record.proofs.Heads.{head-length}
 use Rattle.record.proofs.Fronts.{inner-holds, textFor, assocFor, clear-all, text-sealed}
 
 -- the part of a list behind its first h

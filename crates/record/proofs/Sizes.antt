@@ -21,7 +21,7 @@ use Rattle.record.specs.Header.{sessionOf, lengthOf, headOf}
 use Rattle.record.specs.Read.{recordRows}
 use Rattle.record.specs.Write.{bodyLen, lengthFor, textEndFor, assocEndFor, totalFor, bodyOf, frontOf, formOf}
 use Rattle.record.proofs.Forms.{form-is}
-use Rattle.record.proofs.Writes.{head-length}
+use Rattle.record.proofs.Heads.{head-length}
 
 -- the body is as long as its form says
 pub body-length : (s : Setting) (app random : List ℕ) → length (bodyOf s app random) ≡ bodyLen s (length app) (length random)

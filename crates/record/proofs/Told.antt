@@ -22,7 +22,9 @@ pub bad-setting : (s : Setting) → Tells (badSetting s) (BadSetting s)
 unfolding badSetting badMac
 bad-setting s =
     tells-or
+    (tells-or
     (tells-or (tells-or (tells-lt _ _) (tells-lt _ _)) (tells-and (tells-and (tells-differ _ 8) (tells-differ _ 12)) (tells-differ _ 16)))
+    (tells-lt _ _))
     (tells-eq _ _)
 
 -- 2: what Open refuses

@@ -27,20 +27,26 @@ same-setting s t =
     let b =
     tells-and
     (tells-and
+    (tells-and
     (tells-and (tells-and (tells-eq (s .mode) (t .mode)) (tells-eq (s .layout) (t .layout))) (tells-eq (s .mac) (t .mac)))
+    (tells-eq (s .profile) (t .profile)))
     (tells-eq (s .session) (t .session)))
     (tells-eq (s .limit) (t .limit)) in
     record {
       holds = λ e i. let z = b .holds e in record {
-        mode = z .0 .0 .0 .0 i;
-        layout = z .0 .0 .0 .1 i;
-        mac = z .0 .0 .1 i;
+        mode = z .0 .0 .0 .0 .0 i;
+        layout = z .0 .0 .0 .0 .1 i;
+        mac = z .0 .0 .0 .1 i;
+        profile = z .0 .0 .1 i;
         session = z .0 .1 i;
         limit = z .1 i;
       };
       fails = λ e p. b .fails e (
         (
-          ((ap (λ (x : Setting). x .mode) p, ap (λ (x : Setting). x .layout) p), ap (λ (x : Setting). x .mac) p),
+          (
+            ((ap (λ (x : Setting). x .mode) p, ap (λ (x : Setting). x .layout) p), ap (λ (x : Setting). x .mac) p),
+            ap (λ (x : Setting). x .profile) p,
+          ),
           ap (λ (x : Setting). x .session) p,
         ),
         ap (λ (x : Setting). x .limit) p,

@@ -16,9 +16,9 @@ use Rattle.record.specs.Write.{lengthFor, totalFor}
 abbrev pub BadMac : Setting → Type 0
 BadMac s = ((s .mac ≡ 8 → ⊥) × (s .mac ≡ 12 → ⊥)) × (s .mac ≡ 16 → ⊥)
 
--- mode above 1, layout above 1 (request g), such a MAC, or L = 0
+-- mode above 1, layout above 1 (request g), such a MAC, profile above 1 (request h), or L = 0
 abbrev pub BadSetting : Setting → Type 0
-BadSetting s = (((1 < s .mode) ⊎ (1 < s .layout)) ⊎ BadMac s) ⊎ (s .limit ≡ 0)
+BadSetting s = ((((1 < s .mode) ⊎ (1 < s .layout)) ⊎ BadMac s) ⊎ (1 < s .profile)) ⊎ (s .limit ≡ 0)
 
 -- Length under the MAC's (mode 0), or under 2 more (mode 1)
 abbrev pub TooSmall : Setting → List ℕ → Type 0

@@ -11,11 +11,11 @@ use Rattle.numbers.specs.declared.window.Rule.{Rule}
 use Rattle.record.specs.declared.setting.Setting.{Setting}
 
 abbrev pub zeroSetting : Setting
-zeroSetting = record { mode = 0; layout = 0; mac = 0; session = 0; limit = 0 }
+zeroSetting = record { mode = 0; layout = 0; mac = 0; profile = 0; session = 0; limit = 0 }
 
 -- page 01's own: what the requests made variable is as it stands there
 abbrev pub pageSetting : ℕ → ℕ → ℕ → Setting
-pageSetting mode session limit = record { mode = mode; layout = 0; mac = 16; session = session; limit = limit }
+pageSetting mode session limit = record { mode = mode; layout = 0; mac = 16; profile = 0; session = session; limit = limit }
 
 -- field by field
 unfoldable pub sameSetting : Setting → Setting → Bool
@@ -23,6 +23,7 @@ sameSetting s t =
     eqb (s .mode) (t .mode)
     && eqb (s .layout) (t .layout)
     && eqb (s .mac) (t .mac)
+    && eqb (s .profile) (t .profile)
     && eqb (s .session) (t .session)
     && eqb (s .limit) (t .limit)
 
@@ -38,13 +39,17 @@ authOnly s = eqb (s .mode) 0
 unfoldable pub numberFirst : Setting → Bool
 numberFirst s = eqb (s .layout) 0
 
+-- profile 0: a record's header has a partial number
+unfoldable pub hasPartial : Setting → Bool
+hasPartial s = eqb (s .profile) 0
+
 -- the MAC has 8, 12 or 16 bytes
 unfoldable pub badMac : Setting → Bool
 badMac s = differ (s .mac) 8 && differ (s .mac) 12 && differ (s .mac) 16
 
--- a mode above 1, a layout above 1, another length of the MAC, or no usable number
+-- a mode above 1, a layout above 1, another length of the MAC, a profile above 1, or no usable number
 unfoldable pub badSetting : Setting → Bool
-badSetting s = ltb 1 (s .mode) || ltb 1 (s .layout) || badMac s || eqb (s .limit) 0
+badSetting s = ltb 1 (s .mode) || ltb 1 (s .layout) || badMac s || ltb 1 (s .profile) || eqb (s .limit) 0
 
 -- 2: what Open refuses
 unfoldable pub openRows : Setting → List Check

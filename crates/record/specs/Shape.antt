@@ -8,17 +8,18 @@ use lib.Dec.{ltb}
 use lib.ListN.{length}
 use Rattle.octets.specs.Fields.{field}
 use Rattle.record.specs.declared.setting.Setting.{Setting}
-use Rattle.record.specs.Setting.{authOnly}
+use Rattle.record.specs.Setting.{authOnly, hasPartial}
 use Rattle.record.specs.Header.{lengthOf}
 
 -- ---- lengths
 
+-- Session ID, partial number and Length; without a partial number 2 bytes fewer
 unfoldable pub headLen : Setting → ℕ
-headLen s = 8
+headLen s = cond (hasPartial s) 8 6
 
 -- the shortest header that a setting gives
 unfoldable pub shortest : ℕ
-shortest = 8
+shortest = 6
 
 -- the MAC's length; of a setting that is none of a channel at most 16, as it is of one
 unfoldable pub macLen : Setting → ℕ

@@ -19,8 +19,10 @@ pub struct Record {
 }
 
 impl Record {
-    // The header's length.
+    // The header's length, and without a partial number.
     pub const HEADER: u64 = 8;
+
+    pub const BARE_HEADER: u64 = 6;
 
     // The longest MAC.
     pub const MAC: u64 = 16;
@@ -78,5 +80,10 @@ impl Record {
 pub fn place(setting: Setting, window: Window, rec: &[u8]) -> Placed
     ensures { λ r. ⌜ r ≡ placeOf setting window (now (rec .entry)) ⌝ }
 {
-    window.place(setting.rule(), header::partial_of(setting, rec))
+    let rule = setting.rule();
+    let partial = setting.has_partial();
+    if partial {
+        return window.place(rule, header::partial_of(setting, rec));
+    }
+    window.judge(rule, window.next)
 }

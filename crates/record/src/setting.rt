@@ -2,16 +2,17 @@
 use numbers::Rule;
 use numbers::Window;
 ghost use mathlib.Core.Path.{_≡_};
-ghost use Rattle.record.specs.Setting.{zeroSetting, authOnly, numberFirst, badSetting, ruleOf};
+ghost use Rattle.record.specs.Setting.{zeroSetting, authOnly, numberFirst, hasPartial, badSetting, ruleOf};
 
 // Mode 0 is message authentication only, mode 1 encryption and authentication. Layout 0 has the
-// number in the first bytes of a nonce, layout 1 in the last. The MAC has 8, 12 or 16 bytes. Usable
-// numbers are those below the limit.
+// number in the first bytes of a nonce, layout 1 in the last. The MAC has 8, 12 or 16 bytes. Profile 0
+// sends the low 16 bits of the number, profile 1 none of it. Usable numbers are those below the limit.
 #[repr(C)]
 pub struct Setting {
     pub mode: u8,
     pub layout: u8,
     pub mac: u8,
+    pub profile: u8,
     pub session: u32,
     pub limit: u64,
 }
@@ -24,6 +25,7 @@ impl Setting {
             mode: 0,
             layout: 0,
             mac: 0,
+            profile: 0,
             session: 0,
             limit: 0,
         }
@@ -42,12 +44,19 @@ impl Setting {
         self.layout == 0
     }
 
+    // Whether a record's header has a partial number.
+    pub fn has_partial(self) -> bool
+        ensures { λ r. ⌜ r ≡ hasPartial self ⌝ }
+    {
+        self.profile == 0
+    }
+
     // Whether Open refuses it.
     pub fn is_bad(self) -> bool
         ensures { λ r. ⌜ r ≡ badSetting self ⌝ }
     {
         let odd = (self.mac != 8) & (self.mac != 12) & (self.mac != 16);
-        (1 < self.mode) | (1 < self.layout) | odd | (self.limit == 0)
+        (1 < self.mode) | (1 < self.layout) | odd | (1 < self.profile) | (self.limit == 0)
     }
 
     // The rule of its keys.

@@ -16,7 +16,8 @@ fn less(a: u64, b: u64) -> u64
 pub(crate) fn head_len(setting: Setting) -> u64
     ensures { λ r. ⌜ r ≡ headLen setting ⌝ }
 {
-    Record::HEADER
+    let partial = setting.has_partial();
+    if partial { Record::HEADER } else { Record::BARE_HEADER }
 }
 
 // At most the longest, so that no sum of lengths can pass a word.

@@ -12,12 +12,13 @@ use Rattle.channel.specs.declared.key.Key.{Key}
 
 -- ---- read
 
--- the mode, the layout and the MAC's length are the first bytes of one word
+-- the mode, the layout, the MAC's length and the profile are the first bytes of one word
 abbrev pub settingOf : ℕ → ℕ → ℕ → Setting
 settingOf head session limit = record {
   mode = head % 256;
   layout = head / 256 % 256;
   mac = head / 256 / 256 % 256;
+  profile = head / 256 / 256 / 256 % 256;
   session = session % 4294967296;
   limit = limit;
 }
@@ -38,7 +39,7 @@ heldOf held = eqb (held % 2) 1
 -- ---- written
 
 abbrev pub settingWords : Setting → List ℕ
-settingWords s = (s .mode + 256 * (s .layout + 256 * s .mac)) ∷ s .session ∷ s .limit ∷ []
+settingWords s = (s .mode + 256 * (s .layout + 256 * (s .mac + 256 * s .profile))) ∷ s .session ∷ s .limit ∷ []
 
 abbrev pub ivWords : List ℕ → List ℕ
 ivWords iv = field iv 0 8 ∷ field iv 8 4 ∷ []

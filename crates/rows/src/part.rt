@@ -14,7 +14,7 @@ const BYTE: u64 = 256;
 // What half a word holds is below this.
 const HALF: u64 = 4294967296;
 
-// The mode, the layout and the MAC's length share a word.
+// The mode, the layout, the MAC's length and the profile share a word.
 pub(crate) fn setting_of(head: u64, session: u64, limit: u64) -> Setting
     ensures { λ r. ⌜ r ≡ settingOf head session limit ⌝ }
 {
@@ -22,6 +22,7 @@ pub(crate) fn setting_of(head: u64, session: u64, limit: u64) -> Setting
         mode: (head % BYTE) as u8,
         layout: (head / BYTE % BYTE) as u8,
         mac: (head / BYTE / BYTE % BYTE) as u8,
+        profile: (head / BYTE / BYTE / BYTE % BYTE) as u8,
         session: (session % HALF) as u32,
         limit: limit,
     }
@@ -61,7 +62,8 @@ pub(crate) fn key_of(head: u64, tail: u64, next: u64, marks: u64) -> Key
 pub(crate) fn setting_words(setting: Setting) -> [u64; 3]
     ensures { λ r. ⌜ (r ≡ settingWords setting) × (settingOf (getD r 0 0) (getD r 1 0) (getD r 2 0) ≡ setting) ⌝ }
 {
-    let upper = setting.layout as u64 + BYTE * (setting.mac as u64);
+    let top = setting.mac as u64 + BYTE * (setting.profile as u64);
+    let upper = setting.layout as u64 + BYTE * top;
     let head = setting.mode as u64 + BYTE * upper;
     [head, setting.session as u64, setting.limit]
 }

@@ -12,6 +12,7 @@ pub(crate) fn setting(mode: u8) -> Setting {
         mode: mode,
         layout: 0,
         mac: 16,
+        profile: 0,
         session: SESSION,
         limit: 18446744073709551615,
     }
