@@ -1,12 +1,12 @@
--- Answers that never occur; so a record that is delivered by its Session ID is not Short nor Session in its row.
+-- A record that is delivered by its Session ID is not Session in its row, nor Short where it has that row's header.
 -- Assumes nothing.
 use Prim.Native.Nat.{ℕ, _≤_}
 use mathlib.Core.Path.{_≡_, sym}
 use mathlib.Core.Logic.{_≢_}
-use mathlib.Core.Bool.{Bool, true, false}
+use mathlib.Core.Bool.{Bool, true}
 use mathlib.Core.List.{List}
 use native.Mathlib.Omega.{arith}
-use lib.Dec.{ltb, eqb}
+use lib.Dec.{eqb}
 use lib.ListN.{length}
 use borrow.Author.Tests.{eq-eqb, le-ltb}
 use Rattle.answers.specs.Refusal as Refusal
@@ -16,19 +16,14 @@ use Rattle.numbers.specs.Number.{numberRows}
 use Rattle.record.specs.Header.{sessionOf}
 use Rattle.record.specs.Read.{recordRows, placeRows}
 use Rattle.record.specs.Shape.{headLen}
-use Rattle.channel.proofs.Outcome.{code-of}
-use Rattle.channel.specs.Call.{Call, offer, settle}
+use Rattle.channel.specs.Call.{offer, settle}
 use Rattle.channel.specs.Receiver.{look, answerTo}
 use Rattle.channel.specs.Rules.{stateRows, slotRows, offerRows, cipherRows, markingRows, rows}
-use Rattle.channel.specs.declared.receiver.Receiver.{Receiver}
 use Rattle.rows.specs.Ends.{Ends, idOf}
 use Rattle.controller.specs.Doors.{session, doorRows}
 use Rattle.controller.specs.Calls.{rowTo}
-use Rattle.bay.proofs.Tests.{never, tested}
+use Rattle.promises.proofs.Never.{never-code}
 use Rattle.bay.proofs.Through.{session-through}
-
-pub never-code : (x : Receiver) (c : Call) (k : ℕ) → k ≢ 0 → tested k (rows (look x) c) ≡ false → answerTo x c .code ≢ k
-never-code x c k z h = rw (code-of x c) (never k z (rows (look x) c) h)
 
 -- ---- a record that was delivered by its own Session ID
 

@@ -33,7 +33,8 @@ use Rattle.controller.specs.Calls.{TableCall, enter, leave, receive, build, tur
 use Rattle.bay.specs.Reach.{target, codeIn, checksOf}
 use Rattle.bay.specs.Reasons.{Open, Clash}
 use Rattle.bay.specs.TableRun.{emptyTable, tableRun}
-use Rattle.bay.proofs.Tests.{never, told-true}
+use Rattle.promises.proofs.Never.{never, never-code}
+use Rattle.bay.proofs.Tests.{told-true}
 use Rattle.bay.proofs.Rows.{SetRow, itself, other, set-row}
 use Rattle.bay.proofs.Free.{empty-free, not-open-free}
 use Rattle.bay.proofs.Ends.{granted-good}
@@ -42,7 +43,6 @@ use Rattle.bay.proofs.Answering.{build-own, open-code, receive-own, ref
 use Rattle.bay.proofs.After.{after-either, made, target-there}
 use Rattle.bay.proofs.Told.{clash-told}
 use Rattle.bay.proofs.Apart.{never-clashes}
-use Rattle.bay.proofs.Never.{never-code}
 
 -- ---- the rows of a table that was empty are good
 

@@ -43,18 +43,18 @@ use Rattle.promises.proofs.Once.{Known, keysOf, known-now, known-older,
 
 -- ---- runs of both receivers
 
-plainReached : Plain → List Call → Plain
+unfoldable pub plainReached : Plain → List Call → Plain
 plainReached = reachBy plainLook outcome plainChange
 
-record Both (r : Receiver) (p : Plain) : Type 0 where
-  related : Related r p
-  sane-plain : Sane p
+pub record Both (r : Receiver) (p : Plain) : Type 0 where
+  pub related : Related r p
+  pub sane-plain : Sane p
 
 step-both : (r : Receiver) (p : Plain) (c : Call) → Both r p → Both (afterBy look outcome change r c) (afterBy plainLook outcome plainChange p c)
 unfolding afterBy
 step-both r p c B = record { related = step-related r p c (B .related) .1; sane-plain = sane p _ (B .sane-plain) }
 
-run-both : (r : Receiver) (p : Plain) (cs : List Call) → Both r p → Both (reached r cs) (plainReached p cs)
+pub run-both : (r : Receiver) (p : Plain) (cs : List Call) → Both r p → Both (reached r cs) (plainReached p cs)
 unfolding reachBy plainReached
 run-both r p [] B = B
 run-both r p (c ∷ cs) B = run-both _ _ cs (step-both r p c B)
@@ -64,14 +64,14 @@ unfolding reachBy plainReached afterBy
 run-kept p [] h = h
 run-kept p (c ∷ cs) h = run-kept _ cs (kept p (outcome (plainLook p) c .effect) h)
 
-same-setting : (p : Plain) (e : Effect) → plainChange p e .setting ≡ p .setting
+pub same-setting : (p : Plain) (e : Effect) → plainChange p e .setting ≡ p .setting
 unfolding plainChange
 same-setting p stay = refl
 same-setting p (marking slot n) = refl
 same-setting p (turning iv) = refl
 same-setting p dropping = refl
 
-run-setting : (p : Plain) (cs : List Call) → plainReached p cs .setting ≡ p .setting
+pub run-setting : (p : Plain) (cs : List Call) → plainReached p cs .setting ≡ p .setting
 unfolding reachBy plainReached afterBy
 run-setting p [] = refl
 run-setting p (c ∷ cs) = run-setting _ cs ∙ same-setting p (outcome (plainLook p) c .effect)
@@ -305,7 +305,7 @@ after-settle x p B r slot c n passed plain t later =
     (subst (λ (s : Setting). ReadAs s (keyAt (plainLook p) slot .next) r n) (sym q) (plain-read p r slot c n passed plain P))
 
 -- from open: where the open was refused, no record is authentic
-zero-run : (cs : List Call) → reached zeroReceiver cs ≡ zeroReceiver
+pub zero-run : (cs : List Call) → reached zeroReceiver cs ≡ zeroReceiver
 unfolding reachBy afterBy stateAfter
 zero-run [] = refl
 zero-run (c ∷ cs) = ap (λ (y : Receiver). reached y cs) (zeros-refused c .1) ∙ zero-run cs

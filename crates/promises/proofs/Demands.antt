@@ -2,10 +2,11 @@
 -- numbers, record, channel, mctp); those of runs are in Run, Plain, SendRun and World, of marks in Marks, the premises of demand 2 in
 -- Premises, what is read back in ReadBack, page 01's table in Laid, what is barred in Barred, the wrong variants in Wrong.. of specs.
 -- Assumes nothing.
-use Prim.Native.Nat.{ℕ, _-_, _^_, _≤_, _<_}
+use Prim.Native.Nat.{ℕ, _+_, _-_, _^_, _≤_, _<_}
 use mathlib.Core.Path.{_≡_}
 use mathlib.Core.Logic.{_≢_, _⊎_, _↔_}
-use mathlib.Core.Bool.{Bool, true, false}
+use mathlib.Core.Bool.{Bool, true, false, cond}
+use lib.Dec.{leb}
 use mathlib.Core.List.{List, [], _++_, map}
 use lib.ListN.{length, take, drop}
 use Rattle.answers.specs.Reasons.{Tells}
@@ -22,6 +23,7 @@ use Rattle.mctp.specs.Application.{wrapData, readData, bodyOf}
 use Rattle.mctp.specs.Message.{wrapRecord, readMessage, recordOf}
 use Rattle.numbers.specs.Memory.{Below}
 use Rattle.record.specs.Nonce.{zeros12}
+use Rattle.record.specs.Setting.{hasPartial}
 use Rattle.record.specs.Shape.{macLen}
 use Rattle.record.specs.Reasons.{BadSetting}
 use Rattle.record.specs.View.{viewOf}
@@ -42,6 +44,8 @@ use Rattle.promises.specs.Ways.{Fails, rightReceives, T1, T2, T3, rightB
 use Rattle.promises.specs.WrongReceivers.{wrongReceivers, markTwice}
 use Rattle.promises.specs.WrongSenders.{wrongSenders}
 use Rattle.promises.specs.WrongBuilds.{wrongBuilds}
+use Rattle.promises.proofs.Second as Second
+use Rattle.promises.proofs.InOrder as InOrder
 use Rattle.promises.proofs.Refused as Refused
 use Rattle.promises.proofs.Marking as Marking
 use Rattle.promises.proofs.Sending as Sending
@@ -300,6 +304,32 @@ zero-or-inner = Bridge.authentic-told
 -- Repeat is not for ever: beyond 32768 the same record may be offered with the answer 0, as another number.
 pub repeat-not-for-ever : FarBehind
 repeat-not-for-ever = Examples.far-behind
+
+-- ======== Request h: a profile that sends no partial numbers. T1 to T4 and demand 2 above hold of it as they stand.
+
+-- The number is always E, so Old and Repeat do not occur, in any state.
+pub never-old : (x : Receiver) → hasPartial (x .setting) ≡ false → (c : Call) → answerTo x c .code ≢ Refusal.Old
+never-old = Second.never-old
+
+pub never-repeat : (x : Receiver) → hasPartial (x .setting) ≡ false → (c : Call) → answerTo x c .code ≢ Refusal.Repeat
+never-repeat = Second.never-repeat
+
+-- Settling one offer twice is Stale, or Spent at the limit: the first time it answered 0 or 14.
+pub settled-twice : (x : Receiver) (r : List ℕ) (slot count n : ℕ) (passed : Bool) (plain : List ℕ) → hasPartial (x .setting) ≡ false
+    → authentic (answerTo x (settle r slot count n passed plain) .code) ≡ true
+    → answerTo (stateAfter x (settle r slot count n passed plain)) (settle r slot count n passed plain) .code
+    ≡ cond (leb (x .setting .limit) (n + 1)) Refusal.Spent Refusal.Stale
+settled-twice = Second.settled-twice
+
+-- In any run from a new channel the numbers marked under each key count are 0, 1, 2 and on with no gaps,
+pub marked-in-order : (s : Setting) (iv : List ℕ) (calls : List Call) (c : ℕ) → hasPartial s ≡ false
+    → let l = under c (allMarked calls (answersOf (openReceiver s iv .next) calls)) in l ≡ from 0 (length l)
+marked-in-order = InOrder.marked-in-order
+
+-- and the gap count is always 0.
+pub never-gaps : (s : Setting) (iv : List ℕ) (calls : List Call) (slot : ℕ) → hasPartial s ≡ false
+    → answerTo (reached (openReceiver s iv .next) calls) (gaps slot) .gaps ≡ 0
+never-gaps = InOrder.never-gaps
 
 -- ======== The theorems bite: each fails of every wrong variant on its list, and holds of the right ones.
 

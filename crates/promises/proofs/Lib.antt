@@ -19,7 +19,10 @@ pub mod ReadBack
 pub mod Made
 pub mod Sealed
 pub mod Ends
+pub mod Never
 pub mod Bridge
+pub mod Second
+pub mod InOrder
 pub mod Toy
 pub mod Computing
 pub mod Computed

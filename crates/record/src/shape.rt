@@ -17,7 +17,11 @@ pub(crate) fn head_len(setting: Setting) -> u64
     ensures { λ r. ⌜ r ≡ headLen setting ⌝ }
 {
     let partial = setting.has_partial();
-    if partial { Record::HEADER } else { Record::BARE_HEADER }
+    if partial {
+        Record::HEADER
+    } else {
+        Record::BARE_HEADER
+    }
 }
 
 // At most the longest, so that no sum of lengths can pass a word.
