@@ -6,14 +6,26 @@
 pub struct Record;
 
 impl Record {
-    /// Session ID, partial number and Length.
+    /// The header of profile 0: Session ID, partial number and Length.
     pub const HEADER: usize = 8;
+    /// The header of profile 1: Session ID and Length.
+    pub const BENCH_HEADER: usize = 6;
     /// The lengths that Open takes for the authentication code at the end.
     pub const MACS: [u8; 3] = [8, 12, 16];
     /// The application data length field, mode 1 only.
     pub const DATA_LENGTH: usize = 2;
     /// The largest value of the Length field.
     pub const LARGEST: usize = 65_535;
+
+    /// Length of the header in a profile.
+    #[must_use]
+    pub const fn header(profile: u8) -> usize {
+        if profile == 0 {
+            Record::HEADER
+        } else {
+            Record::BENCH_HEADER
+        }
+    }
 }
 
 /// Width of the receive window.
@@ -45,4 +57,6 @@ pub struct Table;
 impl Table {
     /// How many rows a table has, free ones too.
     pub const ROWS: usize = 16;
+    /// The shortest record that is looked up; its row may still find it Short.
+    pub const SHORTEST: usize = Record::BENCH_HEADER;
 }

@@ -11,11 +11,11 @@ pub enum Refusal {
     Setting = 2,
     /// Slot above 1, or the old key wanted with none held.
     Key = 3,
-    /// Record under 8 bytes.
+    /// Record shorter than its header.
     Short = 4,
     /// Session ID differs.
     Session = 5,
-    /// Record is not 8 + Length bytes.
+    /// Record is not its header and Length bytes.
     Length = 6,
     /// Length too small for the mode and the MAC.
     Small = 7,

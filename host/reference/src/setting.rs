@@ -17,6 +17,8 @@ pub struct Setting {
     pub layout: u8,
     /// Bytes of the MAC: 8, 12 or 16.
     pub mac: u8,
+    /// 0 has the partial number in its header; 1, for the bench cable, has not.
+    pub profile: u8,
     /// Session ID of the channel.
     pub session: u32,
     /// Record limit L: usable numbers are 0 to L - 1 for each key.
@@ -24,13 +26,15 @@ pub struct Setting {
 }
 
 impl Setting {
-    /// A setting as page 01 alone has it: nonce layout 0 and 16 MAC bytes.
+    /// A setting as page 01 alone has it: nonce layout 0, 16 MAC bytes and the
+    /// partial number in the header.
     #[must_use]
     pub const fn new(mode: u8, session: u32, limit: u64) -> Self {
         Setting {
             mode,
             layout: 0,
             mac: 16,
+            profile: 0,
             session,
             limit,
         }

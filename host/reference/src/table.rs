@@ -3,7 +3,7 @@
 //! it. The rules are read off the table as plain fields, once for each call.
 
 use crate::answers::{Built, Offered, Opened, Settled};
-use crate::layout::Record;
+use crate::layout;
 use crate::memory::{setting_is_bad, Receiver, Sender};
 use crate::raw::{RawRow, RawTable};
 use crate::refusal::Refusal;
@@ -47,7 +47,7 @@ impl Default for Table {
 
 impl Table {
     /// How many rows there are.
-    pub const ROWS: usize = crate::layout::Table::ROWS;
+    pub const ROWS: usize = layout::Table::ROWS;
 
     /// Takes a table from outside, good or bad.
     #[must_use]
@@ -194,7 +194,7 @@ impl Table {
     /// Where the row for this record is, or State, Short or Unknown.
     fn place_for(&self, rec: &[u8]) -> Result<usize, Refusal> {
         let table = self.good()?;
-        Refusal::Short.when(rec.len() < Record::HEADER)?;
+        Refusal::Short.when(rec.len() < layout::Table::SHORTEST)?;
         let session = u32::from_le_bytes([rec[0], rec[1], rec[2], rec[3]]);
         place_with(&table, session).ok_or(Refusal::Unknown)
     }

@@ -72,7 +72,7 @@ impl<V: Version> Line<V> {
         let back = 1 + self.rng.below(last) as usize;
         let mut msg = self.bridge[self.bridge.len() - back].clone();
         if self.rng.one_in(6) {
-            damage(&mut self.rng, &mut msg);
+            damage(&mut self.rng, &self.setting, &mut msg);
         }
         let rec = V::record_of(&msg);
         for slot in 0..2 {
@@ -132,7 +132,9 @@ fn what_is_handed_out_was_sent<V: Version>() {
     for (setting, seed) in good_settings().into_iter().zip(60..) {
         let mut line = Line::<V>::new(setting, seed);
         line.run(60_000);
-        assert!(line.handed > 12_000, "{}", line.handed);
+        // Without a number on the wire only the next record in order passes.
+        let least = [12_000, 200][usize::from(setting.profile)];
+        assert!(line.handed > least, "{}", line.handed);
     }
 }
 

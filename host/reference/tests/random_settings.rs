@@ -10,10 +10,11 @@ use reference::Setting;
 type Choice = fn(&Setting) -> u16;
 
 /// The choices by name, with their good values.
-const CHOICES: [(&str, Choice, &[u16]); 3] = [
+const CHOICES: [(&str, Choice, &[u16]); 4] = [
     ("mode", |setting| u16::from(setting.mode), &[0, 1]),
     ("layout", |setting| u16::from(setting.layout), &[0, 1]),
     ("mac", |setting| u16::from(setting.mac), &[8, 12, 16]),
+    ("profile", |setting| u16::from(setting.profile), &[0, 1]),
 ];
 
 /// The values that a choice takes in many settings.

@@ -291,7 +291,7 @@ fn short_comes_before_unknown() {
         let mut table = filled(rows);
         let before = table.raw();
         let rec = record(0xFFFF_FFFF, 0);
-        for (rec, answer) in [(&rec[..0], SHORT), (&rec[..7], SHORT), (&rec[..8], UNKNOWN)] {
+        for (rec, answer) in [(&rec[..0], SHORT), (&rec[..5], SHORT), (&rec[..6], UNKNOWN)] {
             let offered = table.offer(rec, 9);
             let settled = table.settle(rec, 9, 0, 0, true, &[]);
             let zeros = (Offered::default(), Settled::default());
@@ -304,8 +304,8 @@ fn short_comes_before_unknown() {
     let mut raw = RawTable::default();
     raw[0] = bad_row(0);
     let table = Table::from_raw(raw);
-    assert_eq!(table.offer(&[0; 7], 0).answer, SHORT);
-    assert_eq!(table.offer(&[0; 8], 0).answer, STATE);
+    assert_eq!(table.offer(&[0; 5], 0).answer, SHORT);
+    assert_eq!(table.offer(&[0; 6], 0).answer, STATE);
 }
 
 #[test]
@@ -413,7 +413,14 @@ fn the_quick_table_delivers_the_same() {
     let mut quick = fast::Table::from_raw(raw);
     for session in [session(0), session(9), session(10), 0, 13, u32::MAX] {
         let rec = record(session, 2);
-        for rec in [&rec[..], &rec[..25], &rec[..8], &rec[..7]] {
+        for rec in [
+            &rec[..],
+            &rec[..25],
+            &rec[..8],
+            &rec[..7],
+            &rec[..6],
+            &rec[..5],
+        ] {
             assert_eq!(plain.offer(rec, 0), quick.offer(rec, 0));
             let settled = plain.settle(rec, 0, 0, 2, true, &[0, 0]);
             assert_eq!(settled, quick.settle(rec, 0, 0, 2, true, &[0, 0]));

@@ -216,7 +216,7 @@ impl Receiver {
             &mut self.old
         };
         key.window.mark(checked.number);
-        let (place, length) = data_part(plain, sealed)?;
+        let (place, length) = data_part(self.setting.profile, plain, sealed)?;
         Ok(Settled {
             answer: 0,
             place: place as u64,

@@ -4,10 +4,10 @@ use crate::layout::Record;
 use crate::refusal::Refusal;
 use crate::setting::Setting;
 
-/// A header that passed refusals 4 to 7.
+/// The fields of a header after the Session ID. Profile 1 has no low bits.
 #[derive(Clone, Copy)]
 pub(super) struct Header {
-    pub(super) low: u16,
+    pub(super) low: Option<u16>,
     pub(super) length: u16,
 }
 
@@ -15,7 +15,8 @@ pub(super) struct Header {
 #[inline]
 pub(super) fn setting_is_bad(setting: &Setting) -> bool {
     let known_mac = matches!(setting.mac, 8 | 12 | 16);
-    setting.mode > 1 || setting.layout > 1 || !known_mac || setting.limit == 0
+    let known = setting.mode <= 1 && setting.layout <= 1 && known_mac && setting.profile <= 1;
+    !known || setting.limit == 0
 }
 
 /// Length of a record with neither data nor random bytes.
@@ -32,48 +33,73 @@ pub(super) fn smallest_length(setting: &Setting) -> usize {
 /// Reads the header, or refuses with Short, Session, Length or Small.
 #[inline]
 pub(super) fn read_header(rec: &[u8], setting: &Setting) -> Result<Header, Refusal> {
-    let Some(head) = rec.first_chunk::<{ Record::HEADER }>() else {
-        return Err(Refusal::Short);
-    };
-    let word = u64::from_le_bytes(*head);
-    let (session, low, length) = (word as u32, (word >> 32) as u16, (word >> 48) as u16);
+    let (session, header) = fields(rec, setting.profile).ok_or(Refusal::Short)?;
+    let length = usize::from(header.length);
     if session != setting.session {
         return Err(Refusal::Session);
     }
-    if rec.len() - Record::HEADER != usize::from(length) {
+    if rec.len() - Record::header(setting.profile) != length {
         return Err(Refusal::Length);
     }
-    if usize::from(length) < smallest_length(setting) {
+    if length < smallest_length(setting) {
         return Err(Refusal::Small);
     }
-    Ok(Header { low, length })
+    Ok(header)
 }
 
-/// The header's eight bytes.
+/// The Session ID and the rest of the header, if the record has all of it.
 #[inline]
-pub(super) fn header_bytes(session: u32, number: u64, length: u16) -> [u8; Record::HEADER] {
-    let low = u64::from(number as u16);
-    (u64::from(session) | low << 32 | u64::from(length) << 48).to_le_bytes()
+fn fields(rec: &[u8], profile: u8) -> Option<(u32, Header)> {
+    if profile == 0 {
+        let word = u64::from_le_bytes(*rec.first_chunk()?);
+        let (low, length) = (Some((word >> 32) as u16), (word >> 48) as u16);
+        return Some((word as u32, Header { low, length }));
+    }
+    let (session, rest) = rec.split_first_chunk()?;
+    let length = u16::from_le_bytes(*rest.first_chunk()?);
+    let low = None;
+    Some((u32::from_le_bytes(*session), Header { low, length }))
+}
+
+/// Writes the header and gives what lies behind it in the buffer.
+#[inline]
+pub(super) fn write_header<'a>(
+    setting: &Setting,
+    number: u64,
+    length: u16,
+    out: &'a mut [u8],
+) -> &'a mut [u8] {
+    let (head, rest) = out.split_at_mut(Record::header(setting.profile));
+    let (session, fields) = head.split_at_mut(4);
+    session.copy_from_slice(&setting.session.to_le_bytes());
+    if setting.profile == 0 {
+        let word = u32::from(number as u16) | u32::from(length) << 16;
+        fields.copy_from_slice(&word.to_le_bytes());
+    } else {
+        fields.copy_from_slice(&length.to_le_bytes());
+    }
+    rest
 }
 
 /// The associated-data end and the text end, for a Length that is not Small.
 #[inline]
 pub(super) fn ends(setting: &Setting, length: u16) -> (u64, u64) {
-    let text = Record::HEADER as u64 + u64::from(length) - u64::from(setting.mac);
-    let assoc = if setting.mode == 0 {
-        text
-    } else {
-        Record::HEADER as u64
-    };
+    let header = Record::header(setting.profile) as u64;
+    let text = header + u64::from(length) - u64::from(setting.mac);
+    let assoc = if setting.mode == 0 { text } else { header };
     (assoc, text)
 }
 
 /// Place and length of the application data, or Inner. `sealed` is what lies
 /// between header and MAC, and the plaintext is empty in mode 0 only.
 #[inline]
-pub(super) fn data_part(plain: &[u8], sealed: usize) -> Result<(usize, usize), Refusal> {
+pub(super) fn data_part(
+    profile: u8,
+    plain: &[u8],
+    sealed: usize,
+) -> Result<(usize, usize), Refusal> {
     let Some((field, rest)) = plain.split_first_chunk::<{ Record::DATA_LENGTH }>() else {
-        return Ok((Record::HEADER, sealed));
+        return Ok((Record::header(profile), sealed));
     };
     let length = usize::from(u16::from_le_bytes(*field));
     if length > rest.len() {

@@ -1,7 +1,7 @@
 //! The sender.
 
 use super::nonce::nonce;
-use super::record::{ends, header_bytes, setting_is_bad, smallest_length};
+use super::record::{ends, setting_is_bad, smallest_length, write_header};
 use crate::answers::Built;
 use crate::layout::Record;
 use crate::raw::RawSender;
@@ -126,7 +126,7 @@ impl Sender {
             .saturating_add(random)
             .saturating_add(smallest_length(&self.setting));
         let length = u16::try_from(length).map_err(|_| Refusal::Size)?;
-        if room < Record::HEADER + usize::from(length) {
+        if room < Record::header(self.setting.profile) + usize::from(length) {
             return Err(Refusal::Room);
         }
         Ok(length)
@@ -135,8 +135,7 @@ impl Sender {
     /// The bytes before the MAC, into a buffer with room for them.
     #[inline]
     fn write(&self, number: u64, length: u16, app: &[u8], random: &[u8], out: &mut [u8]) {
-        let (head, mut rest) = out.split_at_mut(Record::HEADER);
-        head.copy_from_slice(&header_bytes(self.setting.session, number, length));
+        let mut rest = write_header(&self.setting, number, length, out);
         if self.setting.mode == 1 {
             let (field, after) = rest.split_at_mut(Record::DATA_LENGTH);
             field.copy_from_slice(&(app.len() as u16).to_le_bytes());

@@ -3,7 +3,7 @@
 use super::receiver::Receiver;
 use super::sender::Sender;
 use crate::answers::{Offered, Settled};
-use crate::layout::Record;
+use crate::layout;
 use crate::raw::{RawRow, RawTable};
 use crate::refusal::Refusal;
 
@@ -49,7 +49,7 @@ impl Row {
 
 impl Table {
     /// How many rows there are.
-    pub const ROWS: usize = crate::layout::Table::ROWS;
+    pub const ROWS: usize = layout::Table::ROWS;
 
     /// Takes a table from outside, good or bad.
     #[must_use]
@@ -98,10 +98,10 @@ impl Table {
     #[inline]
     fn place_for(&self, rec: &[u8]) -> Result<usize, Refusal> {
         let names = self.names()?;
-        let Some(head) = rec.first_chunk::<{ Record::HEADER }>() else {
+        let Some(&[a, b, c, d, ..]) = rec.first_chunk::<{ layout::Table::SHORTEST }>() else {
             return Err(Refusal::Short);
         };
-        let session = u64::from_le_bytes(*head) as u32;
+        let session = u32::from_le_bytes([a, b, c, d]);
         let place = names.iter().position(|&name| name == u64::from(session));
         place.ok_or(Refusal::Unknown)
     }

@@ -36,10 +36,15 @@ impl Window {
         self.next > limit || unmarked_top || below_zero
     }
 
-    /// The number for the low 16 bits, or Spent, Old or Repeat.
+    /// The number for the low 16 bits, or E where a record has none; or
+    /// Spent, Old or Repeat.
     #[inline]
-    pub(super) fn judge(self, low: u16, limit: u64) -> Result<u64, Refusal> {
-        let number = match number_of(self.next, low) {
+    pub(super) fn judge(self, low: Option<u16>, limit: u64) -> Result<u64, Refusal> {
+        let number = match low {
+            Some(low) => number_of(self.next, low),
+            None => Some(self.next),
+        };
+        let number = match number {
             Some(number) if number < limit => number,
             _ => return Err(Refusal::Spent),
         };

@@ -66,10 +66,11 @@ impl KeyMemory {
         })
     }
 
-    /// The number behind the low 16 bits, or Spent, Old or Repeat.
-    pub(super) fn judge(&self, low: u16, limit: u64) -> Result<u64, Refusal> {
+    /// The number behind the low 16 bits, or E where a record has none; or
+    /// Spent, Old or Repeat.
+    pub(super) fn judge(&self, low: Option<u16>, limit: u64) -> Result<u64, Refusal> {
         let next = self.next();
-        let whole = number_of(next, low);
+        let whole = low.map_or(i128::from(next), |low| number_of(next, low));
         Refusal::Spent.when(whole >= i128::from(limit))?;
         Refusal::Old.when(i128::from(next) - whole > i128::from(Window::WIDTH))?;
         // Below L, so it fits; the error is for the type only.

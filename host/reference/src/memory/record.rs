@@ -5,25 +5,33 @@ use crate::layout::Record;
 use crate::refusal::Refusal;
 use crate::setting::Setting;
 
-const HEADER: u64 = Record::HEADER as u64;
 const DATA_LENGTH: u64 = Record::DATA_LENGTH as u64;
 
-/// What a record's header says, once refusals 4 to 7 are past.
+/// What a record's header says, once refusals 4 to 7 are past. Profile 1 has
+/// no low bits.
 pub(super) struct Header {
-    pub(super) low: u16,
+    pub(super) low: Option<u16>,
     pub(super) length: u64,
 }
 
 /// Reads the header, or refuses with Short, Session, Length or Small.
 pub(super) fn read_header(rec: &[u8], setting: &Setting) -> Result<Header, Refusal> {
-    Refusal::Short.when((rec.len() as u64) < HEADER)?;
+    let header = header_length(setting);
+    Refusal::Short.when((rec.len() as u64) < header)?;
     let session = number_in(&rec[0..4]);
-    let low = number_in(&rec[4..6]) as u16;
-    let length = number_in(&rec[6..8]);
+    let (low, length) = match setting.profile {
+        0 => (Some(number_in(&rec[4..6]) as u16), number_in(&rec[6..8])),
+        _ => (None, number_in(&rec[4..6])),
+    };
     Refusal::Session.when(session != u64::from(setting.session))?;
-    Refusal::Length.when(rec.len() as u64 != HEADER + length)?;
+    Refusal::Length.when(rec.len() as u64 != header + length)?;
     Refusal::Small.when(length < smallest_length(setting))?;
     Ok(Header { low, length })
+}
+
+/// How many bytes come before those that Length counts.
+pub(super) fn header_length(setting: &Setting) -> u64 {
+    Record::header(setting.profile) as u64
 }
 
 /// Length of a record without data or random bytes.
@@ -45,11 +53,12 @@ pub(super) fn length_for(setting: &Setting, data: usize, random: usize) -> u128 
 /// The associated-data end and the text end. In mode 0 all before the MAC is
 /// associated data and the text is empty; in mode 1 the header alone is.
 pub(super) fn ends(setting: &Setting, length: u64) -> (u64, u64) {
-    let before_mac = HEADER + length - u64::from(setting.mac);
+    let header = header_length(setting);
+    let before_mac = header + length - u64::from(setting.mac);
     if setting.mode == 0 {
         (before_mac, before_mac)
     } else {
-        (HEADER, before_mac)
+        (header, before_mac)
     }
 }
 
@@ -70,7 +79,7 @@ pub(super) fn data_part(
 ) -> Result<(u64, u64), Refusal> {
     let most = length - smallest_length(setting);
     if setting.mode == 0 {
-        return Ok((HEADER, most));
+        return Ok((header_length(setting), most));
     }
     let data = number_in(&plain[0..2]);
     Refusal::Inner.when(data > most)?;
@@ -86,7 +95,9 @@ pub(super) fn unsealed(
     random: &[u8],
 ) -> Vec<u8> {
     let mut bytes = digits_of(u64::from(setting.session), 4);
-    bytes.extend(digits_of(number, 2));
+    if setting.profile == 0 {
+        bytes.extend(digits_of(number, 2));
+    }
     bytes.extend(digits_of(length, 2));
     if setting.mode == 1 {
         bytes.extend(digits_of(data.len() as u64, 2));

@@ -4,12 +4,16 @@ use crate::layout::{Record, Window};
 use crate::raw::{RawKey, RawReceiver, RawSender};
 use crate::setting::Setting;
 
-/// A setting that Open refuses: mode or layout above 1, a MAC length that is
-/// none of the three, or L = 0.
+/// A setting that Open refuses: mode, layout or profile above 1, a MAC length
+/// that is none of the three, or L = 0.
 #[must_use]
 pub fn setting_is_bad(setting: &Setting) -> bool {
     let unknown_mac = !Record::MACS.contains(&setting.mac);
-    setting.mode > 1 || setting.layout > 1 || unknown_mac || setting.limit == 0
+    setting.mode > 1
+        || setting.layout > 1
+        || unknown_mac
+        || setting.profile > 1
+        || setting.limit == 0
 }
 
 /// A sender's state that every call refuses.

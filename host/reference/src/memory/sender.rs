@@ -1,7 +1,7 @@
 //! The sender: one number after another, none twice under one key.
 
 use super::nonce::nonce;
-use super::record::{ends, length_for, unsealed};
+use super::record::{ends, header_length, length_for, unsealed};
 use super::rule::{sender_is_bad, setting_is_bad};
 use crate::answers::Built;
 use crate::layout::Record;
@@ -63,7 +63,7 @@ impl Sender {
         let length = length_for(&setting, app.len(), random.len());
         Refusal::Size.when(length > Record::LARGEST as u128)?;
         let length = length as u64;
-        let total = Record::HEADER as u64 + length;
+        let total = header_length(&setting) + length;
         Refusal::Room.when((out.len() as u64) < total)?;
 
         let bytes = unsealed(&setting, next, length, app, random);

@@ -36,11 +36,12 @@ pub fn any_receiver(rng: &mut Rng) -> RawReceiver {
 }
 
 fn break_setting(rng: &mut Rng, setting: &mut Setting) {
-    match rng.below(5) {
+    match rng.below(6) {
         0 => setting.mode = above_one(rng),
         1 => setting.mode = rng.word() as u8,
         2 => setting.layout = above_one(rng),
         3 => setting.mac = rng.pick(&[0, 1, 4, 7, 9, 10, 11, 13, 15, 17, 24, 32, 255]),
+        4 => setting.profile = above_one(rng),
         _ => setting.limit = 0,
     }
 }
@@ -106,6 +107,7 @@ fn scramble(rng: &mut Rng) -> RawReceiver {
             mode: rng.word() as u8,
             layout: rng.word() as u8,
             mac: rng.word() as u8,
+            profile: rng.word() as u8,
             session: rng.word() as u32,
             limit: rng.word(),
         },

@@ -70,7 +70,7 @@ fn calm_call(rng: &mut Rng, state: &RawReceiver) -> ReceiverCall {
     };
     let low = next.wrapping_add_signed(step) as u16;
     let length = u16::from(state.setting.mac) + 2 + rng.below(8) as u16;
-    let rec = record(rng, state.setting.session, low, length);
+    let rec = record(rng, &state.setting, low, length);
     settle_call(rng, state, rec, slot)
 }
 

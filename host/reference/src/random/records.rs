@@ -6,11 +6,14 @@ use crate::layout::Record;
 use crate::raw::RawReceiver;
 use crate::setting::Setting;
 
-/// A record with this header and random bytes behind it.
-pub fn record(rng: &mut Rng, session: u32, low: u16, length: u16) -> Vec<u8> {
+/// A record of the setting's profile with these fields in its header (low in
+/// profile 0 only) and random bytes behind it.
+pub fn record(rng: &mut Rng, setting: &Setting, low: u16, length: u16) -> Vec<u8> {
     let mut rec = Vec::with_capacity(Record::HEADER + usize::from(length) + 8);
-    rec.extend(session.to_le_bytes());
-    rec.extend(low.to_le_bytes());
+    rec.extend(setting.session.to_le_bytes());
+    if setting.profile == 0 {
+        rec.extend(low.to_le_bytes());
+    }
     rec.extend(length.to_le_bytes());
     rec.extend(rng.bytes(usize::from(length)));
     rec
@@ -25,44 +28,44 @@ pub fn sound_record(rng: &mut Rng, state: &RawReceiver, slot: u8) -> Vec<u8> {
     };
     let low = near(rng, key.next) as u16;
     let length = length(rng, state.setting.mac);
-    record(rng, state.setting.session, low, length)
+    record(rng, &state.setting, low, length)
 }
 
 /// A record, damaged about once in four times.
 pub fn any_record(rng: &mut Rng, state: &RawReceiver, slot: u8) -> Vec<u8> {
     let mut rec = sound_record(rng, state, slot);
     if rng.one_in(4) {
-        damage(rng, &mut rec);
+        damage(rng, &state.setting, &mut rec);
     }
     rec
 }
 
 /// Cuts, lengthens or forges a record.
-pub fn damage(rng: &mut Rng, rec: &mut Vec<u8>) {
+pub fn damage(rng: &mut Rng, setting: &Setting, rec: &mut Vec<u8>) {
     let len = rec.len();
     match rng.below(7) {
         0 => rec.truncate(rng.below(len as u64 + 1) as usize),
         1 => rec.truncate(rng.below(Record::HEADER as u64 + 2) as usize),
         2 => rec.truncate(len.saturating_sub(1)),
         3 => rec.push(rng.word() as u8),
-        4 => forge_length(rng, rec),
+        4 => forge_length(rng, Record::header(setting.profile), rec),
         5 => flip(rng, rec, 4),
         _ => flip(rng, rec, len),
     }
 }
 
 /// Another Length, with or without the bytes to match it.
-fn forge_length(rng: &mut Rng, rec: &mut Vec<u8>) {
+fn forge_length(rng: &mut Rng, header: usize, rec: &mut Vec<u8>) {
     let length = match rng.below(12) {
         0 => u16::MAX,
         1 => 24,
         _ => rng.below(20) as u16,
     };
-    if let Some(field) = rec.get_mut(6..8) {
+    if let Some(field) = rec.get_mut(header - 2..header) {
         field.copy_from_slice(&length.to_le_bytes());
     }
     if length < 100 && rng.one_in(2) {
-        rec.resize(Record::HEADER + usize::from(length), 0);
+        rec.resize(header + usize::from(length), 0);
     }
 }
 
@@ -88,7 +91,7 @@ fn length(rng: &mut Rng, mac: u8) -> u16 {
 /// A plaintext buffer for a record: mostly of the right length, and in mode 1
 /// with a data length around what fits.
 pub fn plain_for(rng: &mut Rng, setting: &Setting, rec: &[u8]) -> Vec<u8> {
-    let around = Record::HEADER + usize::from(setting.mac);
+    let around = Record::header(setting.profile) + usize::from(setting.mac);
     let sealed = rec.len().saturating_sub(around);
     let right = if setting.mode == 0 { 0 } else { sealed };
     let len = match rng.below(24) {

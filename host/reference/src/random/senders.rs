@@ -41,8 +41,9 @@ pub fn sender_call(rng: &mut Rng, state: &RawSender) -> SenderCall {
     if rng.one_in(16) {
         return SenderCall::ChangeKey { iv: rng.iv() };
     }
+    let Setting { mac, profile, .. } = state.setting;
     let (data, padding) = sizes(rng, &state.setting);
-    let smallest = Record::HEADER + usize::from(state.setting.mac) + Record::DATA_LENGTH;
+    let smallest = Record::header(profile) + usize::from(mac) + Record::DATA_LENGTH;
     let total = smallest + data + padding;
     // Two bytes either way of the total, since mode 0 has two fewer.
     let room = match rng.below(8) {

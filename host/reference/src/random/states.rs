@@ -17,6 +17,7 @@ pub fn good_setting(rng: &mut Rng) -> Setting {
         mode: rng.below(2) as u8,
         layout: rng.below(2) as u8,
         mac: rng.pick(&Record::MACS),
+        profile: rng.below(2) as u8,
         session,
         limit: limit(rng),
     }

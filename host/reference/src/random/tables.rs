@@ -67,10 +67,11 @@ fn nearly_free(rng: &mut Rng) -> RawRow {
 
 /// One field of a setting of zeros.
 fn set_one(rng: &mut Rng, setting: &mut Setting) {
-    match rng.below(4) {
+    match rng.below(5) {
         0 => setting.mode = 1,
         1 => setting.layout = 1,
         2 => setting.mac = rng.pick(&Record::MACS),
+        3 => setting.profile = 1,
         _ => setting.limit = 1,
     }
 }

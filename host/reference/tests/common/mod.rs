@@ -36,6 +36,7 @@ pub fn good_settings() -> Vec<Setting> {
             Setting { layout: 1, ..base },
             Setting { mac: 8, ..base },
             Setting { mac: 12, ..base },
+            Setting { profile: 1, ..base },
         ]
     })
     .collect()
@@ -57,6 +58,11 @@ pub fn bad_settings() -> Vec<Setting> {
         Setting { mac: 10, ..good },
         Setting { mac: 20, ..good },
         Setting { mac: 255, ..good },
+        Setting { profile: 2, ..good },
+        Setting {
+            profile: 255,
+            ..good
+        },
         Setting { limit: 0, ..good },
         Setting {
             limit: 0,
@@ -118,5 +124,13 @@ pub fn record(low: u16, length: u16) -> Vec<u8> {
     rec.extend(low.to_le_bytes());
     rec.extend(length.to_le_bytes());
     rec.resize(8 + usize::from(length), 0);
+    rec
+}
+
+/// A record of profile 1 with zeros behind its header.
+pub fn bench_record(session: u32, length: u16) -> Vec<u8> {
+    let mut rec = session.to_le_bytes().to_vec();
+    rec.extend(length.to_le_bytes());
+    rec.resize(6 + usize::from(length), 0);
     rec
 }
