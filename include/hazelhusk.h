@@ -1,4 +1,4 @@
-/* Hazelhusk 1.3: SPDM secured records over MCTP, for C.
+/* Hazelhusk 1.4: SPDM secured records over MCTP, for C.
  *
  * Link target/staticlib/libhusk.a. It needs nothing else: no heap, no C library, no global state.
  *
@@ -10,9 +10,9 @@
  * length 0 may be NULL.
  *
  * What you must do:
- *   - Open both ends of a channel with the same setting, its layout and its MAC's length included, and the
- *     same key and IV. Between ends that differ in either nothing is promised: see HAZELHUSK_LAYOUT_LITTLE
- *     and HAZELHUSK_MAC_BYTES.
+ *   - Open both ends of a channel with the same setting, its layout, its MAC's length and its profile
+ *     included, and the same key and IV. Between ends that differ in one of them nothing is promised: see
+ *     HAZELHUSK_LAYOUT_LITTLE, HAZELHUSK_MAC_BYTES and HAZELHUSK_PROFILE_BUS.
  *   - Keep the state that the last call left, and call with no other. A copy that is older repeats
  *     numbers. Give one state to one thread at a time.
  *   - Let no pointer of a call alias another: not the state, not the output buffer.
@@ -43,9 +43,10 @@ extern "C" {
 #endif
 
 /* It changes whenever a struct below does. */
-#define HAZELHUSK_VERSION 4
+#define HAZELHUSK_VERSION 5
 
 #define HAZELHUSK_HEADER_BYTES 8u  /* bytes of a record's header */
+#define HAZELHUSK_BENCH_HEADER_BYTES 6u  /* the same with HAZELHUSK_PROFILE_BENCH */
 #define HAZELHUSK_WINDOW_WIDTH 64u  /* numbers that a receive window remembers */
 #define HAZELHUSK_SLOT_CURRENT 0u  /* the slot of the current receive key */
 #define HAZELHUSK_SLOT_OLD 1u     /* the slot of the old one */
@@ -62,20 +63,29 @@ extern "C" {
  * too small for the receiver's MAC is HAZELHUSK_SMALL, and the cipher refuses the others. */
 #define HAZELHUSK_MAC_BYTES 16u
 
+/* What a record's header holds. On the test bench's cable it holds no part of the number: each record has the
+ * next one, so the transport must keep order, lose nothing and repeat nothing. After one lost record the
+ * cipher refuses all that follow under that key. HAZELHUSK_OLD and _REPEAT do not occur there: a record
+ * delivered again is HAZELHUSK_MAC. Between ends that differ nearly every record is HAZELHUSK_LENGTH, but in
+ * mode 0 one whose data happens to fit is handed out cut: see docs/INTEGRATION.md, 'Which profile'. */
+#define HAZELHUSK_PROFILE_BUS 0u    /* Session ID, the low 16 bits of the number, Length */
+#define HAZELHUSK_PROFILE_BENCH 1u  /* Session ID, Length */
+
 /* The refusals. */
 enum {
     HAZELHUSK_OK = 0,
     HAZELHUSK_STATE = 1,    /* the state is none that the calls return */
-    HAZELHUSK_SETTING = 2,  /* mode or layout above 1, mac none of 8, 12 and 16, or a limit of 0 */
+    HAZELHUSK_SETTING = 2,  /* mode, layout or profile above 1, mac none of 8, 12 and 16, or a limit of 0 */
     HAZELHUSK_KEY = 3,      /* no such slot, or no old key */
-    HAZELHUSK_SHORT = 4,    /* the record is shorter than a header */
+    HAZELHUSK_SHORT = 4,    /* the record is shorter than its profile's header */
     HAZELHUSK_SESSION = 5,  /* another Session ID */
-    HAZELHUSK_LENGTH = 6,   /* the record is not its header and Length bytes */
+    HAZELHUSK_LENGTH = 6,   /* the record is not its profile's header and Length bytes */
     HAZELHUSK_SMALL = 7,    /* Length is too small for the setting's MAC */
     HAZELHUSK_SPENT = 8,    /* the number is not below the limit */
     HAZELHUSK_OLD = 9,      /* the number lies behind the window */
     HAZELHUSK_REPEAT = 10,  /* the number was marked before */
-    HAZELHUSK_STALE = 11,   /* key count or number is not the one worked out now */
+    HAZELHUSK_STALE = 11,   /* key count or number is not the one worked out now; on the bench also one offer
+                               settled twice */
     HAZELHUSK_PLAIN = 12,   /* the plaintext buffer has another length than the text */
     HAZELHUSK_MAC = 13,     /* the cipher said no */
     HAZELHUSK_INNER = 14,   /* the data length inside passes the text; the number is marked */
@@ -94,9 +104,9 @@ enum {
 /* ---- states and answers, as they lie in memory */
 
 /* A channel's setting, the same at both ends. Mode 0 authenticates, mode 1 encrypts too; `layout` is one
- * of HAZELHUSK_LAYOUT_..; a MAC has `mac` bytes; each key's numbers are those below `limit`. See
- * hazelhusk_setting_of. */
-typedef struct { uint8_t mode, layout, mac; uint32_t session; uint64_t limit; } hazelhusk_setting;
+ * of HAZELHUSK_LAYOUT_..; a MAC has `mac` bytes; `profile` is one of HAZELHUSK_PROFILE_..; each key's
+ * numbers are those below `limit`. See hazelhusk_setting_of. */
+typedef struct { uint8_t mode, layout, mac, profile; uint32_t session; uint64_t limit; } hazelhusk_setting;
 typedef struct { uint8_t bytes[12]; } hazelhusk_iv;
 typedef struct { uint64_t word; } hazelhusk_marks;
 typedef struct { uint64_t next; hazelhusk_marks marks; } hazelhusk_window;
@@ -199,11 +209,11 @@ uint8_t husk_table_change_receiver(hazelhusk_controller *table, uint8_t row, haz
 uint8_t husk_table_change_sender(hazelhusk_controller *table, uint8_t row, hazelhusk_iv iv);
 uint8_t husk_table_drop(hazelhusk_controller *table, uint8_t row);
 
-/* The usual setting: the layout is HAZELHUSK_LAYOUT_LITTLE, and the MAC has HAZELHUSK_MAC_BYTES. Where a
- * board wants another, change that field of it. */
+/* The usual setting: the layout is HAZELHUSK_LAYOUT_LITTLE, the MAC has HAZELHUSK_MAC_BYTES, and the profile
+ * is HAZELHUSK_PROFILE_BUS. Where a board wants another, change that field of it. */
 static inline hazelhusk_setting hazelhusk_setting_of(uint8_t mode, uint32_t session, uint64_t limit)
 {
-    hazelhusk_setting setting = { mode, HAZELHUSK_LAYOUT_LITTLE, HAZELHUSK_MAC_BYTES, session, limit };
+    hazelhusk_setting setting = { mode, HAZELHUSK_LAYOUT_LITTLE, HAZELHUSK_MAC_BYTES, HAZELHUSK_PROFILE_BUS, session, limit };
     return setting;
 }
 
@@ -251,7 +261,8 @@ static inline uint8_t hazelhusk_receiver_open(hazelhusk_receiver *receiver, haze
     return step.answer;
 }
 
-/* How many of the last numbers are missing under the slot's key. HAZELHUSK_STATE, _KEY. */
+/* How many of the last numbers are missing under the slot's key; on the bench none ever is.
+ * HAZELHUSK_STATE, _KEY. */
 static inline uint8_t hazelhusk_gaps(const hazelhusk_receiver *receiver, uint8_t slot, uint32_t *gaps)
 {
     hazelhusk_counted counted = husk_gaps(*receiver, slot);
@@ -306,7 +317,8 @@ static inline uint8_t hazelhusk_drop(hazelhusk_receiver *receiver)
  * A record reaches the row that has its Session ID; every other call names its row, 0 to 15. A call
  * changes its row and no other. Each answers HAZELHUSK_STATE first where two open rows share a Session
  * ID or a row's two differ, which no call leads to. HAZELHUSK_UNKNOWN comes before all that the row
- * itself would say.
+ * itself would say. The table's own HAZELHUSK_SHORT is for a record under HAZELHUSK_BENCH_HEADER_BYTES,
+ * whichever profiles its rows have; a row may find a longer one short.
  *
  * What you must do, beside what is said at the top:
  *   - Start with zeros (`hazelhusk_controller controller = { 0 };`), and let the calls write the words.
@@ -334,7 +346,7 @@ static inline uint8_t hazelhusk_controller_close(hazelhusk_controller *controlle
 }
 
 /* What the cipher is to check of a record, by the row that has its Session ID. It changes nothing.
- * HAZELHUSK_STATE, _SHORT, _UNKNOWN, then _STATE, _KEY and _LENGTH to _REPEAT of that row. */
+ * HAZELHUSK_STATE, _SHORT, _UNKNOWN, then _STATE, _KEY, _SHORT and _LENGTH to _REPEAT of that row. */
 static inline uint8_t hazelhusk_controller_offer(const hazelhusk_controller *controller, const uint8_t *rec, size_t rec_len, uint8_t slot, hazelhusk_offered *offered)
 {
     *offered = husk_table_offer(controller, rec, rec_len, slot);
@@ -343,7 +355,7 @@ static inline uint8_t hazelhusk_controller_offer(const hazelhusk_controller *con
 
 /* What the cipher said. On 0 the number is marked and `app` is the application data, a part of `plain`,
  * or of `rec` where `plain_len` is 0 (mode 0); else `app` is empty. HAZELHUSK_STATE, _SHORT, _UNKNOWN,
- * then _STATE, _KEY and _LENGTH to _INNER of that row. */
+ * then _STATE, _KEY, _SHORT and _LENGTH to _INNER of that row. */
 static inline uint8_t hazelhusk_controller_settle(hazelhusk_controller *controller, const uint8_t *rec, size_t rec_len, uint8_t slot, uint32_t count, uint64_t number, uint8_t yes, const uint8_t *plain, size_t plain_len, hazelhusk_part *app)
 {
     hazelhusk_taken taken = husk_table_settle(controller, rec, rec_len, slot, count, number, yes, plain, plain_len);

@@ -1,7 +1,7 @@
 /* A small part of a bay: one board's records cross the bus under a toy cipher, one is delivered twice,
  * one is forged, and the key changes while a record of the old key is late. Then the same with a board of
- * the first series, whose MAC has 8 bytes. Each line says what the receiver answered; the program ends
- * with 1 where an answer is not the one expected. */
+ * the first series, whose MAC has 8 bytes, and last a board on the test bench's cable. Each line says what
+ * the receiver answered; the program ends with 1 where an answer is not the one expected. */
 #include <stdio.h>
 
 #include "hazelhusk.h"
@@ -82,7 +82,32 @@ static int story(uint8_t mac)
     return failures != 0;
 }
 
+/* On the bench's cable a record says no number: each has the next one, so after a lost one none passes. */
+static int bench(void)
+{
+    static const uint8_t iv[12] = { 7, 8, 9 };
+    hazelhusk_setting setting = hazelhusk_setting_of(0, 0x55667788, UINT64_MAX);
+    hazelhusk_sender sender;
+    hazelhusk_receiver receiver;
+    hazelhusk_part app;
+    uint8_t record[64];
+
+    setting.profile = HAZELHUSK_PROFILE_BENCH;
+    if (hazelhusk_sender_open(&sender, setting, iv) || hazelhusk_receiver_open(&receiver, setting, iv)) return 1;
+    size_t n = send_one(&sender, 9, 50, record);
+    printf("on the bench's cable, in records of %u\n", (unsigned)n);
+    if (n != HAZELHUSK_BENCH_HEADER_BYTES + 1 + HAZELHUSK_MAC_BYTES) failures++;
+    expect("a record", receive_one(&receiver, 9, HAZELHUSK_SLOT_CURRENT, record, n, &app), HAZELHUSK_OK, app);
+    expect("it is delivered again", receive_one(&receiver, 9, HAZELHUSK_SLOT_CURRENT, record, n, &app), HAZELHUSK_MAC, app);
+    send_one(&sender, 9, 51, record);
+    expect("the next record", receive_one(&receiver, 9, HAZELHUSK_SLOT_CURRENT, record, n, &app), HAZELHUSK_OK, app);
+    send_one(&sender, 9, 52, record);
+    send_one(&sender, 9, 53, record);
+    expect("the one after a lost record", receive_one(&receiver, 9, HAZELHUSK_SLOT_CURRENT, record, n, &app), HAZELHUSK_MAC, app);
+    return failures != 0;
+}
+
 int main(void)
 {
-    return story(HAZELHUSK_MAC_BYTES) || story(8);
+    return story(HAZELHUSK_MAC_BYTES) || story(8) || bench();
 }

@@ -5,8 +5,8 @@
 #define SIZE(type, size) _Static_assert(sizeof(hazelhusk_##type) == (size), #type)
 #define AT(type, field, place) _Static_assert(offsetof(hazelhusk_##type, field) == (place), #type "." #field)
 
-SIZE(setting, 16); AT(setting, mode, 0); AT(setting, layout, 1); AT(setting, mac, 2); AT(setting, session, 4);
-AT(setting, limit, 8);
+SIZE(setting, 16); AT(setting, mode, 0); AT(setting, layout, 1); AT(setting, mac, 2);
+AT(setting, profile, 3); AT(setting, session, 4); AT(setting, limit, 8);
 SIZE(iv, 12);
 SIZE(marks, 8);
 SIZE(window, 16); AT(window, next, 0); AT(window, marks, 8);
@@ -46,12 +46,13 @@ static int table(void)
     setting.session++;
     setting.layout = HAZELHUSK_LAYOUT_BIG;
     setting.mac = 12;
+    setting.profile = HAZELHUSK_PROFILE_BENCH;
     if (hazelhusk_controller_open(&controller, setting, out, in, &row) || row != 1) return 2;
     if (hazelhusk_controller_open(&controller, setting, out, in, &row) != HAZELHUSK_TWICE || row != 0) return 3;
     if (hazelhusk_controller_build(&controller, 1, plain, 1, NULL, 0, record, sizeof record, &sent)) return 4;
-    if (sent.number != 0 || sent.assoc != 8 || sent.text != 11 || sent.total != 23 || memcmp(sent.nonce, in, 12)) return 5;
+    if (sent.number != 0 || sent.assoc != 6 || sent.text != 9 || sent.total != 21 || memcmp(sent.nonce, in, 12)) return 5;
     if (hazelhusk_controller_offer(&controller, record, sent.total, HAZELHUSK_SLOT_CURRENT, &offered)) return 6;
-    if (offered.count != 0 || offered.number != 0 || offered.assoc != 8 || offered.text != 11 || memcmp(offered.nonce, out, 12)) return 7;
+    if (offered.count != 0 || offered.number != 0 || offered.assoc != 6 || offered.text != 9 || memcmp(offered.nonce, out, 12)) return 7;
     if (hazelhusk_controller_settle(&controller, record, sent.total, HAZELHUSK_SLOT_CURRENT, 0, 0, 2, plain, 3, &app) != HAZELHUSK_MAC || app.length) return 8;
     if (hazelhusk_controller_settle(&controller, record, sent.total, HAZELHUSK_SLOT_CURRENT, 0, 0, 1, plain, 3, &app)) return 9;
     if (app.bytes != plain + 2 || app.length != 1) return 10;
@@ -61,7 +62,7 @@ static int table(void)
     if (hazelhusk_controller_gaps(&controller, 1, HAZELHUSK_SLOT_OLD, &gaps) || gaps != 0) return 13;
     const uint64_t first = 0x0807060504030201, last = 0x0c0b0a09, other = 0x1c1b1a1918171615, tail = 0x201f1e1d;
     const uint64_t limit = setting.limit;
-    const uint64_t words[20] = { 0xc0101, 0x82838486, limit, 1, first, last, 0, 0, 1, other, tail, 1, 1, 0xc0101, 0x82838486, limit, 1, 0, other, tail };
+    const uint64_t words[20] = { 0x10c0101, 0x82838486, limit, 1, first, last, 0, 0, 1, other, tail, 1, 1, 0x10c0101, 0x82838486, limit, 1, 0, other, tail };
     const uint64_t fresh[20] = { 0x100001, 0x82838485, limit, 0, first, last, 0, 0, 0, 0, 0, 0, 0, 0x100001, 0x82838485, limit, 0, 0, other, tail };
     if (memcmp(controller.rows[1], words, sizeof words) || memcmp(controller.rows[0], fresh, sizeof fresh)) return 14;
     if (hazelhusk_controller_drop(&controller, 1) || hazelhusk_controller_drop(&controller, 1) != HAZELHUSK_KEY) return 15;
@@ -72,7 +73,7 @@ static int table(void)
 
 static bool same_setting(hazelhusk_setting a, hazelhusk_setting b)
 {
-    return a.mode == b.mode && a.layout == b.layout && a.mac == b.mac && a.session == b.session && a.limit == b.limit;
+    return a.mode == b.mode && a.layout == b.layout && a.mac == b.mac && a.profile == b.profile && a.session == b.session && a.limit == b.limit;
 }
 
 /* A state that is refused comes back as it was: every field crosses the boundary at its place. */
@@ -84,7 +85,7 @@ int main(void)
     memset(&receiver, 0, sizeof receiver);
     memset(&sender, 0, sizeof sender);
     uint8_t byte = 0;
-    receiver.setting = (hazelhusk_setting){ 0x81, 0x92, 0xa3, 0x82838485, 0x868788898a8b8c8d };
+    receiver.setting = (hazelhusk_setting){ 0x81, 0x92, 0xa3, 0xb4, 0x82838485, 0x868788898a8b8c8d };
     receiver.count = 0x8e8f9091;
     receiver.held = true;
     for (int i = 0; i < 12; i++) { receiver.current.iv[i] = ++byte; receiver.old.iv[i] = ++byte; sender.iv[i] = ++byte; }
