@@ -1,4 +1,5 @@
 // Page 01's worked cases ('Run by a program and compared'), one line each.
+mod bench;
 mod print;
 mod records;
 mod sizes;
@@ -6,11 +7,13 @@ mod wrapping;
 
 fn main() {
     records::both_modes();
+    records::both_modes_on_the_bench();
     records::nonce();
     sizes::largest();
     sizes::largest_with_8();
     sizes::largest_with_12();
     sizes::smallest();
+    bench::settled_twice();
     wrapping::inner();
     wrapping::outer();
 }

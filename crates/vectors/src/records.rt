@@ -18,10 +18,17 @@ pub(crate) fn setting(mode: u8) -> Setting {
     }
 }
 
+// The same on the test bench's cable (request h).
+pub(crate) fn on_the_bench(mode: u8) -> Setting {
+    let mut chosen = setting(mode);
+    chosen.profile = 1;
+    chosen
+}
+
 // A sender that has built the numbers 0 to 4.
-fn at_five(mode: u8) -> Sender {
+fn at_five(setting: Setting) -> Sender {
     let mut out = [0u8; 32];
-    let s = Sender::open(setting(mode), [0; 12]).next;
+    let s = Sender::open(setting, [0; 12]).next;
     let s = s.build(b"", b"", &mut out).next;
     let s = s.build(b"", b"", &mut out).next;
     let s = s.build(b"", b"", &mut out).next;
@@ -44,14 +51,22 @@ fn show(built: Built, out: &[u8]) {
     print::text(b"\n");
 }
 
-pub(crate) fn both_modes() {
+// The record of the page's data and these random bytes.
+fn record(name: &[u8], setting: Setting, random: &[u8]) {
     let mut out = [0u8; 32];
-    print::text(b"mode 0,");
-    let clear = at_five(0).build(b"\xA0\xA1\xA2", b"", &mut out);
-    show(clear, &out);
-    print::text(b"mode 1,");
-    let hidden = at_five(1).build(b"\xA0\xA1\xA2", b"\xFF", &mut out);
-    show(hidden, &out);
+    print::text(name);
+    let built = at_five(setting).build(b"\xA0\xA1\xA2", random, &mut out);
+    show(built, &out);
+}
+
+pub(crate) fn both_modes() {
+    record(b"mode 0,", setting(0), b"");
+    record(b"mode 1,", setting(1), b"\xFF");
+}
+
+pub(crate) fn both_modes_on_the_bench() {
+    record(b"bench, mode 0,", on_the_bench(0), b"");
+    record(b"bench, mode 1,", on_the_bench(1), b"\xFF");
 }
 
 pub(crate) fn nonce() {
