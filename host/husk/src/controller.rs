@@ -33,7 +33,8 @@ impl Controller {
     }
 
     /// What the cipher is to check of a record, by the row that has its Session ID. It changes nothing.
-    /// [`Refusal::Short`] and [`Refusal::Unknown`] come before what that row itself says.
+    /// [`Refusal::Short`], below [`crate::BENCH_HEADER`], and [`Refusal::Unknown`] come before what that row
+    /// itself says, which may be Short of its own header.
     pub fn offer(&self, rec: &[u8], slot: u8) -> Result<Offered, Refusal> {
         Offered::of(self.table.offer(rec, slot))
     }

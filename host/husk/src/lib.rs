@@ -47,8 +47,18 @@ pub const LAYOUT_LITTLE: u8 = 0;
 /// Layout 1, the second maker's: zeros, and the number big-endian in the last 8. Number 0 has the same nonce
 /// in both layouts, so between ends that differ record 0 passes and the cipher refuses those after it.
 pub const LAYOUT_BIG: u8 = 1;
-/// The length of a record's header.
+/// Profile 0, for a bus: a record's header holds the Session ID, the low 16 bits of the number, and Length.
+pub const PROFILE_BUS: u8 = 0;
+/// Profile 1, for the test bench's cable: the header holds the Session ID and Length. Each record has the
+/// next number, so the transport must keep order, lose nothing and repeat nothing: after one lost record the
+/// cipher refuses all that follow under that key. [`Refusal::Old`] and [`Refusal::Repeat`] do not occur; a
+/// record delivered again is [`Refusal::Mac`], and one offer settled twice is [`Refusal::Stale`], or
+/// [`Refusal::Spent`] at the limit.
+pub const PROFILE_BENCH: u8 = 1;
+/// The length of a record's header with [`PROFILE_BUS`].
 pub const HEADER: usize = 8;
+/// The length of a record's header with [`PROFILE_BENCH`]. A table has no row for a shorter record.
+pub const BENCH_HEADER: usize = 6;
 /// How many bytes a record's MAC may have. Between ends that differ no record passes: one too small for the
 /// receiver's MAC is [`Refusal::Small`], and the cipher refuses the others.
 pub const MACS: [u8; 3] = [8, 12, 16];

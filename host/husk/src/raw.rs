@@ -16,6 +16,8 @@ pub struct Setting {
     pub layout: u8,
     /// How many bytes a MAC has: one of [`crate::MACS`].
     pub mac: u8,
+    /// What a header holds: [`crate::PROFILE_BUS`] or [`crate::PROFILE_BENCH`].
+    pub profile: u8,
     /// The Session ID.
     pub session: u32,
     /// Each key's numbers are those below it.

@@ -43,7 +43,7 @@ impl Receiver {
         Refusal::answer(step.answer).map(|()| Receiver { state: step.next })
     }
 
-    /// How many of the last numbers are missing under the slot's key.
+    /// How many of the last numbers are missing under the slot's key; on the bench none ever is.
     pub fn gaps(&self, slot: u8) -> Result<u32, Refusal> {
         let counted = self.state.gaps(slot);
         Refusal::answer(counted.answer).map(|()| counted.gaps)

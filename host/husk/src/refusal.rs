@@ -7,15 +7,15 @@ use core::fmt;
 pub enum Refusal {
     /// The state is none that the calls return.
     State = 1,
-    /// Mode or layout above 1, a MAC length that is none of [`crate::MACS`], or a limit of 0.
+    /// Mode, layout or profile above 1, a MAC length that is none of [`crate::MACS`], or a limit of 0.
     Setting = 2,
     /// No such key slot, or no old key.
     Key = 3,
-    /// The record is shorter than a header.
+    /// The record is shorter than its profile's header.
     Short = 4,
     /// Another Session ID.
     Session = 5,
-    /// The record is not its header and Length bytes.
+    /// The record is not its profile's header and Length bytes.
     Length = 6,
     /// Length is too small for the setting's MAC.
     Small = 7,
@@ -25,7 +25,7 @@ pub enum Refusal {
     Old = 9,
     /// The number was marked before.
     Repeat = 10,
-    /// Key count or number is not the one worked out now.
+    /// Key count or number is not the one worked out now; on the bench also one offer settled twice.
     Stale = 11,
     /// The plaintext buffer has another length than the text.
     Plain = 12,

@@ -1,5 +1,6 @@
 //! The controller's table through the safe face.
 use husk::{raw, Controller, Refusal, Sender, Setting, CURRENT, LAYOUT_BIG, LAYOUT_LITTLE, MACS, OLD};
+use husk::{PROFILE_BENCH, PROFILE_BUS};
 
 fn setting(mode: u8, session: u32) -> Setting {
     Setting::new(mode, session, u64::MAX)
@@ -85,6 +86,35 @@ fn each_row_has_its_own_mac_length() {
 }
 
 #[test]
+fn each_row_has_its_own_profile() {
+    let mut controller = Controller::new();
+    for profile in [PROFILE_BUS, PROFILE_BENCH] {
+        let setting = Setting { profile, ..setting(0, profile.into()) };
+        let mut board = Sender::open(setting, [1; 12]).unwrap();
+        let row = controller.open(setting, [1; 12], [2; 12]).unwrap();
+        for number in 0..3 {
+            let rec = record(&mut board, b"a");
+            assert_eq!(rec.len(), setting.header() + 1 + 16);
+            assert_eq!(controller.offer(&rec, CURRENT).unwrap().number, number);
+            assert_eq!(controller.settle(&rec, CURRENT, 0, number, true, b""), Ok(&b"a"[..]));
+        }
+        let words = controller.state().rows[usize::from(row)];
+        let kind = u64::from(profile) << 24 | 16 << 16;
+        assert_eq!((words[0], words[13]), (kind, kind));
+    }
+    // Six bytes are enough for the table, and for the row on the bench.
+    for (session, six, seven) in [
+        (PROFILE_BUS, Refusal::Short, Refusal::Short),
+        (PROFILE_BENCH, Refusal::Small, Refusal::Length),
+        (9, Refusal::Unknown, Refusal::Unknown),
+    ] {
+        let start = [session, 0, 0, 0, 0, 0, 0];
+        let offers = [5, 6, 7].map(|length| controller.offer(&start[..length], CURRENT));
+        assert_eq!(offers, [Err(Refusal::Short), Err(six), Err(seven)]);
+    }
+}
+
+#[test]
 fn rows_are_taken_and_freed_lowest_first() {
     let mut controller = Controller::default();
     for row in 0..husk::ROWS as u8 {
@@ -96,6 +126,8 @@ fn rows_are_taken_and_freed_lowest_first() {
     assert_eq!(controller.open(third, [0; 12], [0; 12]), Err(Refusal::Setting));
     let odd = Setting { mac: 10, ..setting(1, 99) };
     assert_eq!(controller.open(odd, [0; 12], [0; 12]), Err(Refusal::Setting));
+    let none = Setting { profile: 2, ..setting(1, 99) };
+    assert_eq!(controller.open(none, [0; 12], [0; 12]), Err(Refusal::Setting));
     assert_eq!(controller.open(setting(1, 15), [0; 12], [0; 12]), Err(Refusal::Twice));
     assert_eq!(controller.open(setting(1, 99), [0; 12], [0; 12]), Err(Refusal::Rows));
     assert_eq!(controller.close(16), Err(Refusal::Unknown));

@@ -15,7 +15,7 @@ macro_rules! lies {
 
 #[test]
 fn each_struct_lies_as_the_header_says() {
-    lies!(Setting, 16, mode at 0, layout at 1, mac at 2, session at 4, limit at 8);
+    lies!(Setting, 16, mode at 0, layout at 1, mac at 2, profile at 3, session at 4, limit at 8);
     lies!(Iv, 12);
     lies!(Marks, 8);
     lies!(Window, 16, next at 0, marks at 8);

@@ -1,15 +1,17 @@
-//! Page 01's worked cases, both layouts of nonces and each MAC length, through the safe face.
-use husk::{raw, Receiver, Refusal, Sender, Setting, LAYOUT_BIG, LAYOUT_LITTLE, MAC, MACS};
+//! Page 01's worked cases, both layouts of nonces, each MAC length and both profiles, through the safe face.
+use husk::{raw, Receiver, Refusal, Sender, Setting};
+use husk::{BENCH_HEADER, HEADER, LAYOUT_BIG, LAYOUT_LITTLE, MAC, MACS, PROFILE_BENCH, PROFILE_BUS};
 
 fn setting(mode: u8) -> Setting {
     Setting::new(mode, 0x1122_3344, u64::MAX)
 }
 
-/// Both modes in both layouts, with each MAC length.
+/// Both modes in both layouts, with each MAC length and both profiles.
 fn settings() -> impl Iterator<Item = Setting> {
     let modes = [setting(0), setting(1)].into_iter();
     let laid = modes.flat_map(|setting| [LAYOUT_LITTLE, LAYOUT_BIG].map(|layout| Setting { layout, ..setting }));
-    laid.flat_map(|setting| MACS.map(|mac| Setting { mac, ..setting }))
+    let coded = laid.flat_map(|setting| MACS.map(|mac| Setting { mac, ..setting }));
+    coded.flat_map(|setting| [PROFILE_BUS, PROFILE_BENCH].map(|profile| Setting { profile, ..setting }))
 }
 
 /// The nonce that a sender of this layout has for a number.
@@ -38,6 +40,7 @@ fn a_record_goes_through_once() {
         let random: &[u8] = if setting.mode == 1 { b"\xff" } else { b"" };
         let built = sender.build(b"\xA0\xA1\xA2", random, &mut out).unwrap();
         assert_eq!(built.total - built.text, usize::from(setting.mac));
+        assert_eq!(setting.header() + 3 + usize::from(setting.mac) + 3 * random.len(), built.total);
         let record = &out[..built.total];
         let offered = receiver.offer(record, husk::CURRENT).unwrap();
         assert_eq!((offered.number, offered.nonce), (built.number, built.nonce));
@@ -46,8 +49,13 @@ fn a_record_goes_through_once() {
         let data = receiver.settle(record, husk::CURRENT, offered.count, offered.number, true, plain);
         assert_eq!(data, Ok(&b"\xA0\xA1\xA2"[..]));
         let again = receiver.settle(record, husk::CURRENT, offered.count, offered.number, true, plain);
-        assert_eq!(again, Err(Refusal::Repeat));
-        assert_eq!(receiver.offer(record, husk::CURRENT), Err(Refusal::Repeat));
+        let offered = receiver.offer(record, husk::CURRENT).map(|offered| offered.number);
+        // On the bench the very same bytes would be the next record, if the cipher took them for it.
+        let (refusal, next) = match setting.profile {
+            PROFILE_BENCH => (Refusal::Stale, Ok(1)),
+            _ => (Refusal::Repeat, Err(Refusal::Repeat)),
+        };
+        assert_eq!((again, offered), (Err(refusal), next));
         assert_eq!(receiver.gaps(husk::CURRENT), Ok(0));
     }
 }
@@ -84,6 +92,9 @@ fn a_refused_open_is_an_error_and_zeros_are_state() {
     for mac in (0..=255).filter(|mac| !MACS.contains(mac)) {
         refused(Setting { mac, ..setting(0) });
     }
+    for profile in 2..=255 {
+        refused(Setting { profile, ..setting(0) });
+    }
     let zeros = Receiver::from_state(raw::Receiver::default());
     assert_eq!(zeros.offer(&[], 9), Err(Refusal::State));
     assert_eq!(Sender::from_state(raw::Sender::default()).change_key([1; 12]), Err(Refusal::State));
@@ -92,6 +103,46 @@ fn a_refused_open_is_an_error_and_zeros_are_state() {
 #[test]
 fn the_usual_mac_is_the_longest() {
     assert_eq!((usize::from(setting(0).mac), MACS.iter().max()), (MAC, Some(&setting(0).mac)));
+}
+
+/// Data A0 A1 A2 in both modes, with the random byte FF in mode 1: the header is Session ID and Length.
+#[test]
+fn a_record_of_the_bench_has_no_number() {
+    for (mode, random, bytes) in [
+        (0, &b""[..], &b"\x44\x33\x22\x11\x13\x00\xA0\xA1\xA2"[..]),
+        (1, &b"\xFF"[..], &b"\x44\x33\x22\x11\x16\x00\x03\x00\xA0\xA1\xA2\xFF"[..]),
+    ] {
+        let setting = Setting { profile: PROFILE_BENCH, ..setting(mode) };
+        let mut sender = Sender::open(setting, [0; 12]).unwrap();
+        for number in 0..3 {
+            let mut out = [0; 32];
+            let built = sender.build(b"\xA0\xA1\xA2", random, &mut out).unwrap();
+            assert_eq!((built.number, &out[..built.text]), (number, bytes));
+        }
+    }
+    assert_eq!((setting(0).header(), HEADER, BENCH_HEADER), (8, 8, 6));
+}
+
+/// One offer settled twice under this limit, with this data length inside.
+fn settled_twice(limit: u64, data: u8) -> (Result<(), Refusal>, Result<(), Refusal>) {
+    let setting = Setting { profile: PROFILE_BENCH, limit, ..setting(1) };
+    let mut receiver = Receiver::open(setting, [0; 12]).unwrap();
+    let mut record = [0; 24];
+    Sender::open(setting, [0; 12]).unwrap().build(&[], &[], &mut record).unwrap();
+    let offered = receiver.offer(&record, husk::CURRENT).unwrap();
+    let plain = [data, 0];
+    let mut settle = || receiver.settle(&record, husk::CURRENT, offered.count, offered.number, true, &plain);
+    let answers = (settle().map(|_| ()), settle().map(|_| ()));
+    assert_eq!(receiver.gaps(husk::CURRENT), Ok(0));
+    answers
+}
+
+#[test]
+fn on_the_bench_one_offer_settled_twice_is_stale_and_at_the_limit_spent() {
+    for (limit, again) in [(2, Refusal::Stale), (1, Refusal::Spent)] {
+        assert_eq!(settled_twice(limit, 0), (Ok(()), Err(again)));
+        assert_eq!(settled_twice(limit, 1), (Err(Refusal::Inner), Err(again)));
+    }
 }
 
 #[test]
