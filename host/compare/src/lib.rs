@@ -20,12 +20,12 @@ pub struct HuskReceiver(raw::Receiver);
 
 /// The reference's setting, for the proved version.
 pub fn setting_in(s: Setting) -> raw::Setting {
-    raw::Setting { mode: s.mode, layout: s.layout, mac: s.mac, session: s.session, limit: s.limit }
+    raw::Setting { mode: s.mode, layout: s.layout, mac: s.mac, profile: s.profile, session: s.session, limit: s.limit }
 }
 
 /// The proved version's setting, for the reference.
 pub fn setting_out(s: raw::Setting) -> Setting {
-    Setting { mode: s.mode, layout: s.layout, mac: s.mac, session: s.session, limit: s.limit }
+    Setting { mode: s.mode, layout: s.layout, mac: s.mac, profile: s.profile, session: s.session, limit: s.limit }
 }
 
 fn key_in(k: RawKey) -> raw::Key {

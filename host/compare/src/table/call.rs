@@ -164,7 +164,7 @@ fn any_row(rng: &mut Rng, table: &RawTable) -> u8 {
 fn largest(rng: &mut Rng, setting: &Setting) -> SenderCall {
     let inner = if setting.mode == 0 { 0 } else { Record::DATA_LENGTH };
     let data = Record::LARGEST - usize::from(setting.mac) - inner + rng.below(2) as usize;
-    let room = Record::HEADER + Record::LARGEST;
+    let room = Record::header(setting.profile) + Record::LARGEST;
     SenderCall::Build { app: rng.bytes(data), random: Vec::new(), out: rng.bytes(room) }
 }
 

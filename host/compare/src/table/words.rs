@@ -1,5 +1,5 @@
 //! A table's rows as the words that they lie in, in the order of crates/rows/specs/Ends.antt: one word for
-//! each number, but mode, layout and the MAC's length share one.
+//! each number, but mode, layout, the MAC's length and the profile share one.
 use husk::raw;
 use reference::random::Rng;
 use reference::{Iv, RawKey, RawReceiver, RawRow, RawSender, RawTable, Setting};
@@ -8,7 +8,7 @@ use reference::{Iv, RawKey, RawReceiver, RawRow, RawSender, RawTable, Setting};
 const SENDER: usize = 13;
 
 /// How many bits of each word are its number's; those above are read by no call.
-const BITS: [u32; 20] = [24, 32, 64, 32, 64, 32, 64, 64, 1, 64, 32, 64, 64, 24, 32, 64, 32, 64, 64, 32];
+const BITS: [u32; 20] = [32, 32, 64, 32, 64, 32, 64, 64, 1, 64, 32, 64, 64, 32, 32, 64, 32, 64, 64, 32];
 
 fn iv_words(iv: Iv) -> [u64; 2] {
     let mut halves = [[0; 8]; 2];
@@ -25,12 +25,13 @@ fn iv_of(words: &[u64]) -> Iv {
 }
 
 fn setting_words(s: Setting) -> [u64; 3] {
-    [u64::from(s.mode) | u64::from(s.layout) << 8 | u64::from(s.mac) << 16, s.session.into(), s.limit]
+    let kind = u32::from_le_bytes([s.mode, s.layout, s.mac, s.profile]);
+    [kind.into(), s.session.into(), s.limit]
 }
 
 fn setting_of(words: &[u64]) -> Setting {
-    let [mode, layout, mac, ..] = words[0].to_le_bytes();
-    Setting { mode, layout, mac, session: words[1] as u32, limit: words[2] }
+    let [mode, layout, mac, profile, ..] = words[0].to_le_bytes();
+    Setting { mode, layout, mac, profile, session: words[1] as u32, limit: words[2] }
 }
 
 fn key_of(words: &[u64]) -> RawKey {
