@@ -17,9 +17,10 @@ fn modes() -> [Setting; 2] {
     [husk::AUTHENTICATED, husk::ENCRYPTED].map(|mode| Setting::new(mode, 0x1122_3344, u64::MAX))
 }
 
-/// Both modes with each length.
+/// Both modes with each length, in both profiles.
 fn settings() -> impl Iterator<Item = Setting> {
-    modes().into_iter().flat_map(|setting| MACS.map(|mac| Setting { mac, ..setting }))
+    let coded = modes().into_iter().flat_map(|setting| MACS.map(|mac| Setting { mac, ..setting }));
+    coded.flat_map(|setting| [setting, Setting { profile: husk::PROFILE_BENCH, ..setting }])
 }
 
 /// Length of a record with no data and no random bytes.
@@ -43,7 +44,7 @@ fn with_one_length_every_record_is_handed_out() {
 fn with_two_lengths_nothing_is_handed_out_and_nothing_marked() {
     for from in settings() {
         for to in MACS.map(|mac| Setting { mac, ..from }).into_iter().filter(|&to| to != from) {
-            let small = |record: &Sent| record.bytes.len() - Record::HEADER < least(to);
+            let small = |record: &Sent| record.bytes.len() - Record::header(to.profile) < least(to);
             let refusal = |record: &Sent| if small(record) { Refusal::Small } else { Refusal::Mac };
             // The one cipher that has more lengths than one.
             let suite = Suite::Aes256Gcm;
@@ -87,7 +88,7 @@ fn a_damaged_mac_is_refused_in_each_bit() {
 
 /// What a version builds of so many bytes of data and random bytes, in the room for the largest record.
 fn build<V: Version>(setting: Setting, data: usize, random: usize) -> (Built, Vec<u8>) {
-    let mut out = vec![0x5c; Record::HEADER + Record::LARGEST];
+    let mut out = vec![0x5c; Record::header(setting.profile) + Record::LARGEST];
     let (answer, mut sender) = V::Sender::open(setting, [1; 12]);
     assert_eq!(answer, 0);
     let built = sender.build(&vec![2; data], &vec![3; random], &mut out);
@@ -103,8 +104,9 @@ fn built(setting: Setting, data: usize, random: usize) -> (u8, u64) {
 
 #[test]
 fn the_largest_data_is_built_and_one_byte_more_is_size() {
-    let (largest, size) = ((0, 65_543), (Refusal::Size.number(), 0));
+    let size = (Refusal::Size.number(), 0);
     for setting in settings() {
+        let largest = (0, [65_543, 65_541][usize::from(setting.profile)]);
         let most = 65_535 - least(setting);
         assert_eq!(built(setting, most, 0), largest);
         assert_eq!(built(setting, most + 1, 0), size);
