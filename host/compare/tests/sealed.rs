@@ -1,20 +1,29 @@
-//! Real cipher text: what either version builds and the cipher seals, both read back alike, in both modes
-//! and layouts, with each MAC length and with both ciphers, over losses, repeats, damage, key changes with
-//! late records, and drops. Whatever is handed out was sent, under its key and number, and is handed out
-//! once.
+//! Real cipher text: what either version builds and the cipher seals, both read back alike, in both modes,
+//! layouts and profiles, with each MAC length and with both ciphers, over losses, repeats, damage, key
+//! changes with late records, and drops. Whatever is handed out was sent, under its key and number, and is
+//! handed out once.
 mod sealing;
 
 use cipher::Suite;
 use compare::Husk;
 use reference::random::Rng;
 use reference::version::{Memory, ReceiverCalls, SenderCalls, Version};
-use reference::Setting;
+use reference::{RawReceiver, Setting};
 use sealing::{receive, send, suites, Keys, Sent};
 use std::collections::{HashMap, HashSet};
 
-/// One of the last records that were sent, damaged one time in five.
-fn arrived(mail: &[Sent], rng: &mut Rng) -> Sent {
-    let mut record = mail[mail.len() - 1 - rng.below(mail.len().min(90) as u64) as usize].clone();
+/// The record that comes next under the receiver's current key, if it was sent.
+fn awaited<'a>(mail: &'a [Sent], receiver: &RawReceiver) -> Option<&'a Sent> {
+    mail.iter().find(|record| (record.count, record.number) == (receiver.count, receiver.current.next))
+}
+
+/// One of the last records that were sent, damaged one time in five. On the bench it is mostly the next, or
+/// few would be handed out.
+fn arrived(mail: &[Sent], receiver: &RawReceiver, rng: &mut Rng) -> Sent {
+    let late = &mail[mail.len() - 1 - rng.below(mail.len().min(90) as u64) as usize];
+    let in_order = receiver.setting.profile == husk::PROFILE_BENCH && !rng.one_in(4);
+    let next = awaited(mail, receiver).filter(|_| in_order);
+    let mut record = next.unwrap_or(late).clone();
     if rng.one_in(5) {
         let place = rng.below(record.bytes.len() as u64) as usize;
         record.bytes[place] ^= 1 << rng.below(8);
@@ -46,7 +55,7 @@ fn run<S: Version>(suite: Suite, setting: Setting, seed: u64) -> usize {
             }
             _ if mail.is_empty() => {}
             _ => {
-                let record = arrived(&mail, &mut rng);
+                let record = arrived(&mail, &ours.raw(), &mut rng);
                 let slot = u8::from(record.count != ours.raw().count);
                 let answer = receive::<Husk>(&mut ours, &keys, &record.bytes, slot);
                 assert_eq!(answer, receive::<Memory>(&mut theirs, &keys, &record.bytes, slot));
@@ -62,18 +71,17 @@ fn run<S: Version>(suite: Suite, setting: Setting, seed: u64) -> usize {
     handed.len()
 }
 
-/// Both modes, in both layouts, with each MAC length.
-fn settings() -> impl Iterator<Item = Setting> {
-    let modes = [0, 1].map(|mode| Setting::new(mode, 0, 1 << 20)).into_iter();
+/// Both modes, in both layouts, with each MAC length, in this profile.
+fn settings(profile: u8) -> impl Iterator<Item = Setting> {
+    let modes = [0, 1].map(|mode| Setting { profile, ..Setting::new(mode, 0, 1 << 20) }).into_iter();
     let laid = modes.flat_map(|setting| [setting, Setting { layout: 1, ..setting }]);
     laid.flat_map(|setting| husk::MACS.map(|mac| Setting { mac, ..setting }))
 }
 
-#[test]
-fn sealed_records_are_read_back_alike_and_once() {
+fn read_back(profile: u8) {
     let mut handed = 0;
     for seed in 0..6 {
-        for setting in settings() {
+        for setting in settings(profile) {
             for suite in suites(setting.mac) {
                 handed += run::<Husk>(suite, setting, seed);
                 handed += run::<Memory>(suite, setting, seed);
@@ -81,4 +89,14 @@ fn sealed_records_are_read_back_alike_and_once() {
         }
     }
     assert!(handed > 8_000, "only {} records were handed out", handed);
+}
+
+#[test]
+fn sealed_records_are_read_back_alike_and_once() {
+    read_back(husk::PROFILE_BUS);
+}
+
+#[test]
+fn so_they_are_on_the_bench() {
+    read_back(husk::PROFILE_BENCH);
 }
