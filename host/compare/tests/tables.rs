@@ -2,6 +2,9 @@
 //! single calls on any table, with and without bits above the numbers; and every refusal that a table has is
 //! met on the way.
 use compare::table::{table_calls, table_runs, Call, TableTally};
+use husk::raw;
+use reference::random::ReceiverCall;
+use reference::{Refusal, Setting, Table};
 
 const SEED: u64 = 0x5eed_0002;
 
@@ -37,5 +40,37 @@ fn single_calls_on_any_table() {
     }
     for (kind, name) in Call::NAMES.iter().enumerate() {
         assert!(tally.of(kind) > 20, "{name}");
+    }
+}
+
+/// What both tables answer to a record of zeros behind this Session ID, settled in this slot.
+fn settled(tables: &mut (raw::Table, Table), session: u32, length: usize, slot: u8) -> u8 {
+    let mut rec = session.to_le_bytes().to_vec();
+    rec.resize(length, 0);
+    let call =
+        Call::Receive(0, ReceiverCall::Settle { rec, slot, count: 0, number: 0, passed: true, plain: Vec::new() });
+    let answer = call.in_husk(&mut tables.0, 0);
+    assert_eq!(answer, call.in_reference(&mut tables.1));
+    answer.number()
+}
+
+/// Six bytes are enough for the table to look for a row; each row then has a header of its own.
+#[test]
+fn records_about_as_long_as_a_header() {
+    let mut tables = (raw::Table::default(), Table::default());
+    for profile in [husk::PROFILE_BUS, husk::PROFILE_BENCH] {
+        let open = Call::Open(Setting { profile, ..Setting::new(0, profile.into(), 9) }, [1; 12], [2; 12]);
+        assert_eq!((open.in_husk(&mut tables.0, 0).number(), open.in_reference(&mut tables.1).number()), (0, 0));
+    }
+    for (session, slot, answers) in [
+        (0, 0, [Refusal::Short, Refusal::Short, Refusal::Short, Refusal::Small, Refusal::Length]),
+        (1, 0, [Refusal::Short, Refusal::Small, Refusal::Length, Refusal::Length, Refusal::Length]),
+        (0, 1, [Refusal::Short, Refusal::Key, Refusal::Key, Refusal::Key, Refusal::Key]),
+        (1, 1, [Refusal::Short, Refusal::Key, Refusal::Key, Refusal::Key, Refusal::Key]),
+        (2, 0, [Refusal::Short, Refusal::Unknown, Refusal::Unknown, Refusal::Unknown, Refusal::Unknown]),
+    ] {
+        let met = [5, 6, 7, 8, 9].map(|length| settled(&mut tables, session, length, slot));
+        assert_eq!(met, answers.map(Refusal::number));
+        assert_eq!(settled(&mut tables, session, 4, slot), Refusal::Short.number());
     }
 }
