@@ -1,7 +1,7 @@
 //! The bay controller.
 use crate::{Element, Secret};
 use husk::wrapping::read_message;
-use husk::{Controller as Table, Refusal, Setting, CURRENT, HEADER};
+use husk::{Controller as Table, Refusal, Setting, BENCH_HEADER, CURRENT};
 
 /// The controller's ends of all channels of the bay in one table, and for each row what the table has not:
 /// the keys for the cipher, and the counts.
@@ -94,8 +94,8 @@ impl Controller {
     }
 }
 
-/// The Session ID of a record; none where the record is shorter than a header.
+/// The Session ID of a record; none where the record is shorter than the shorter header.
 fn session(record: &[u8]) -> Option<u32> {
-    let header = record.get(..HEADER)?;
+    let header = record.get(..BENCH_HEADER)?;
     Some(u32::from_le_bytes(header[..4].try_into().ok()?))
 }

@@ -1,10 +1,12 @@
 //! One element: two keys at once, and what is forged or not for it.
 use demo::{Board, Controller, Element, Reading, Rng, Secret, Tally};
 use husk::wrapping::read_message;
-use husk::{Refusal, Setting, CURRENT, HEADER, MAC, MACS};
+use husk::{Refusal, Setting, BENCH_HEADER, CURRENT, MACS, PROFILE_BENCH, PROFILE_BUS};
 
 /// The Session ID behind the message's type byte: it says whose a message is.
 const SESSION: std::ops::Range<usize> = 1..5;
+
+const USUAL: Setting = Setting::new(husk::ENCRYPTED, 0x1122_3344, u64::MAX);
 
 /// A board, a controller with a row for it and no other, and the keys that they are yet to agree on.
 struct Pair {
@@ -15,15 +17,11 @@ struct Pair {
 
 impl Pair {
     fn new() -> Pair {
-        Pair::with_mac(MAC as u8)
+        Pair::of(USUAL)
     }
 
-    fn with_mac(mac: u8) -> Pair {
+    fn of(setting: Setting) -> Pair {
         let mut rng = Rng::new(7);
-        let setting = Setting {
-            mac,
-            ..Setting::new(husk::ENCRYPTED, 0x1122_3344, u64::MAX)
-        };
         let [secret, back] = [Secret::agree(&mut rng), Secret::agree(&mut rng)];
         let mut controller = Controller::new();
         assert_eq!(controller.open(setting, &secret, &back), Ok(0));
@@ -98,7 +96,8 @@ fn a_refused_key_change_changes_nothing() {
 }
 
 /// Delivers a message with each byte changed, and cut at each place, before the message itself.
-fn forge_each_byte(mut pair: Pair) {
+fn forge_each_byte(setting: Setting) {
+    let mut pair = Pair::of(setting);
     let (message, _) = pair.send();
     // The type byte and the Session ID say whose a message is, so these copies are no element's.
     let (mut strays, mut others) = (0, 0);
@@ -114,18 +113,27 @@ fn forge_each_byte(mut pair: Pair) {
         forge(&mut pair, &forged, place < SESSION.end);
     }
     for cut in 0..message.len() {
-        forge(&mut pair, &message[..cut], cut < 1 + HEADER);
+        forge(&mut pair, &message[..cut], cut < 1 + BENCH_HEADER);
     }
     assert!(!pair.element().is_lit());
     pair.deliver(&message, 1, 0, others);
-    pair.deliver(&message, 1, 1, others);
+    // A repeat, or on the bench a record with a wrong MAC: only a number could tell it from that.
+    let on_bench = u64::from(setting.profile == PROFILE_BENCH);
+    pair.deliver(&message, 1, 1 - on_bench, others + on_bench);
     assert_eq!((pair.controller.poll(), pair.controller.poll()), (1, 0));
 }
 
 #[test]
 fn no_forged_record_blocks_the_true_one() {
     for mac in MACS {
-        forge_each_byte(Pair::with_mac(mac));
+        for profile in [PROFILE_BUS, PROFILE_BENCH] {
+            let setting = Setting {
+                mac,
+                profile,
+                ..USUAL
+            };
+            forge_each_byte(setting);
+        }
     }
 }
 

@@ -2,6 +2,7 @@
 use demo::{Bay, Board, Controller, Rng, Row, Secret, Sheet, Tally};
 use demo::{ELEMENTS, OLD_MAC, PERIODS, PLANS};
 use husk::{Offered, Refusal, Setting, CURRENT, LAYOUT_BIG, LAYOUT_LITTLE, MACS, OLD};
+use husk::{PROFILE_BENCH, PROFILE_BUS};
 
 fn hung() -> Vec<usize> {
     (0..ELEMENTS)
@@ -160,12 +161,16 @@ fn settings() -> impl Iterator<Item = Setting> {
     laid.flat_map(|setting| MACS.map(|mac| Setting { mac, ..setting }))
 }
 
-#[test]
-fn what_is_handed_out_is_what_was_measured() {
+/// Delivers each record twice. The second time it is a repeat; on the bench it is counted with the others.
+fn measure(profile: u8) {
     let mut rng = Rng::new(1);
     let mut controller = Controller::new();
     for (session, setting) in (0x1122_3344..).zip(settings()) {
-        let setting = Setting { session, ..setting };
+        let setting = Setting {
+            session,
+            profile,
+            ..setting
+        };
         let [secret, back] = [Secret::agree(&mut rng), Secret::agree(&mut rng)];
         let mut board = Board::new(setting, &secret, rng.split()).unwrap();
         let place = controller.open(setting, &secret, &back).unwrap();
@@ -175,11 +180,23 @@ fn what_is_handed_out_is_what_was_measured() {
             controller.deliver(&message);
             let element = &controller.elements()[place];
             assert_eq!(element.reading(), Some(board.reading()));
-            assert_eq!(
-                (element.tally().handed, element.tally().repeats),
-                (sent, sent)
-            );
+            let (repeats, others) = match profile {
+                PROFILE_BENCH => (0, sent),
+                _ => (sent, 0),
+            };
+            let tally = Tally {
+                handed: sent,
+                repeats,
+                others,
+            };
+            assert_eq!(element.tally(), tally);
         }
         assert_eq!(board.send(), Err(husk::Refusal::Spent));
     }
+}
+
+#[test]
+fn what_is_handed_out_is_what_was_measured() {
+    measure(PROFILE_BUS);
+    measure(PROFILE_BENCH);
 }
