@@ -11,7 +11,7 @@ use Rattle.channel.specs.Call.{Call}
 use Rattle.channel.specs.Receiver.{newReceiver, stateAfter}
 use Rattle.channel.specs.Sender.{newSender, changeSender}
 use Rattle.record.specs.declared.setting.Setting.{Setting}
-use Rattle.rows.specs.Ends.{Ends, isFree, endsOf, putReceiver, putSender}
+use Rattle.rows.specs.Ends.{rowWords, Ends, isFree, endsOf, putReceiver, putSender}
 use Rattle.rows.specs.declared.row.Row.{Row}
 use Rattle.controller.specs.declared.door.Reached.{Reached}
 use Rattle.controller.specs.Table.{rowAt, lowest}
@@ -20,7 +20,7 @@ use Rattle.controller.specs.Calls.{rowTo, receiveIn, buildIn, turnIn}
 
 -- the words of a free row
 abbrev pub noWords : List ℕ
-noWords = replicate 20 0
+noWords = replicate rowWords 0
 
 abbrev pub rowsOf : List (List ℕ) → List Ends
 rowsOf w = map endsOf w

@@ -20,7 +20,7 @@ impl Reached {
         Reached {
             answer: why,
             at: 0,
-            row: Row { words: [0; 20] },
+            row: Row { words: [0; 26] },
         }
     }
 }
@@ -29,7 +29,7 @@ impl Reached {
 const SHORTEST: usize = 6;
 
 // State, then Short, then Unknown.
-pub(crate) fn by_session(table: &[[u64; 20]], rec: &[u8]) -> Reached
+pub(crate) fn by_session(table: &[[u64; 26]], rec: &[u8]) -> Reached
     ensures { λ r. ⌜ r ≡ reachedIn (now (table .entry)) (session (now (rec .entry))) ⌝ }
 {
     let bad = scan::clash(table);
@@ -53,7 +53,7 @@ pub(crate) fn by_session(table: &[[u64; 20]], rec: &[u8]) -> Reached
 }
 
 // State, then Unknown.
-pub(crate) fn by_number(table: &[[u64; 20]], row: u8) -> Reached
+pub(crate) fn by_number(table: &[[u64; 26]], row: u8) -> Reached
     ensures { λ r. ⌜ r ≡ reachedIn (now (table .entry)) (number row) ⌝ }
 {
     let bad = scan::clash(table);

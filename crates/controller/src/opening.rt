@@ -53,7 +53,7 @@ pub fn open(table: &mut Table, setting: Setting, iv: [u8; 12], iw: [u8; 12]) -> 
     if full {
         return Opened::refused(Refusal::ROWS);
     }
-    let blank = Row { words: [0; 20] };
+    let blank = Row { words: [0; 26] };
     let r = receiver.next;
     let s = sender.next;
     let half = blank.with_receiver(r);
@@ -72,7 +72,7 @@ pub fn close(table: &mut Table, row: u8) -> u8
     if to.answer != 0 {
         return to.answer;
     }
-    let blank = Row { words: [0; 20] };
+    let blank = Row { words: [0; 26] };
     table::put_row(table, to.at, blank);
     0
 }

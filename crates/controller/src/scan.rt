@@ -9,7 +9,7 @@ ghost use Rattle.controller.specs.Table.{some, lowest, has, clashes, ris
 ghost use Rattle.controller.specs.Words.{rowsOf, wordsAt};
 
 // Whether the row at `at` is open and has this Session ID.
-fn has_id(table: &[[u64; 20]], at: usize, id: u32) -> bool
+fn has_id(table: &[[u64; 26]], at: usize, id: u32) -> bool
     ensures { λ r. ⌜ r ≡ has id (endsOf (wordsAt (now (table .entry)) at)) ⌝ }
 {
     let other = table::id_at(table, at) != id;
@@ -20,7 +20,7 @@ fn has_id(table: &[[u64; 20]], at: usize, id: u32) -> bool
 }
 
 // The lowest open row with this Session ID, or the number of rows.
-pub(crate) fn seat(table: &[[u64; 20]], id: u32) -> usize
+pub(crate) fn seat(table: &[[u64; 26]], id: u32) -> usize
     ensures { λ r. ⌜ r ≡ lowest (has id) (rowsOf (now (table .entry))) ⌝ }
 {
     let mut i = 0;
@@ -35,7 +35,7 @@ pub(crate) fn seat(table: &[[u64; 20]], id: u32) -> usize
 }
 
 // The lowest free row, or the number of rows.
-pub(crate) fn vacancy(table: &[[u64; 20]]) -> usize
+pub(crate) fn vacancy(table: &[[u64; 26]]) -> usize
     ensures { λ r. ⌜ r ≡ lowest isFree (rowsOf (now (table .entry))) ⌝ }
 {
     let mut i = 0;
@@ -51,7 +51,7 @@ pub(crate) fn vacancy(table: &[[u64; 20]]) -> usize
 }
 
 // Whether a row from `from` on is open and has this Session ID.
-fn shared(table: &[[u64; 20]], from: usize, id: u32) -> bool
+fn shared(table: &[[u64; 26]], from: usize, id: u32) -> bool
     ensures { λ r. ⌜ r ≡ some (has id) (drop from (rowsOf (now (table .entry)))) ⌝ }
 {
     let mut i = from;
@@ -73,7 +73,7 @@ fn above(least: u64, free: bool, id: u32) -> u64
 }
 
 // Whether no row is split and the Session IDs of the open rows rise from row to row.
-fn rising(table: &[[u64; 20]]) -> bool
+fn rising(table: &[[u64; 26]]) -> bool
     ensures { λ r. ⌜ r ≡ rises 0 (rowsOf (now (table .entry))) ⌝ }
 {
     let mut least: u64 = 0;
@@ -93,7 +93,7 @@ fn rising(table: &[[u64; 20]]) -> bool
 }
 
 // Whether two open rows share a Session ID, or the two ends of a row differ in it.
-fn pairs_clash(table: &[[u64; 20]]) -> bool
+fn pairs_clash(table: &[[u64; 26]]) -> bool
     ensures { λ r. ⌜ r ≡ clashes (rowsOf (now (table .entry))) ⌝ }
 {
     let mut i = 0;
@@ -111,7 +111,7 @@ fn pairs_clash(table: &[[u64; 20]]) -> bool
 }
 
 // The same, seen in one scan where the Session IDs rise, as they mostly do; else by pairs.
-pub(crate) fn clash(table: &[[u64; 20]]) -> bool
+pub(crate) fn clash(table: &[[u64; 26]]) -> bool
     ensures { λ r. ⌜ r ≡ clashes (rowsOf (now (table .entry))) ⌝ }
 {
     let apart = rising(table);

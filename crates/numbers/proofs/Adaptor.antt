@@ -28,14 +28,14 @@ module _ (r : Rule) where
   unfolding widthOf
   width-le = omega arith
 
-  -- every number that the window remembers is found by its low 16 bits
+  -- every number that the window remembers is found by its low 16 bits: the number rule finds an old number to 32768 below E
   pub width-half : widthOf r ≤ 32768
   width-half = omega (arith, width-le)
 
-  -- the word's own width is taken as it is
-  pub width-most : r .width ≡ most → widthOf r ≡ most
+  -- a width from 1 to what the word has is taken as it is
+  pub width-kept : 0 < r .width → r .width ≤ most → widthOf r ≡ r .width
   unfolding widthOf
-  width-most h = omega arith
+  width-kept h k = omega arith
 
 -- ---- a window and its word
 

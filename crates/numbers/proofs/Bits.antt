@@ -25,7 +25,7 @@ pub one-shifted : (w i : ℕ) → i < w → (1 * 2 ^ i) % 2 ^ w ≡ 2 ^ i
 one-shifted w i h = ap (λ (x : ℕ). x % 2 ^ w) (one-mul (2 ^ i)) ∙ mod-eq-of-lt (pow-lt h)
 
 -- a power is the product of two
-pow-split : (i j : ℕ) → i ≤ j → 2 ^ j ≡ 2 ^ (j - i) * 2 ^ i
+pub pow-split : (i j : ℕ) → i ≤ j → 2 ^ j ≡ 2 ^ (j - i) * 2 ^ i
 pow-split i j h = let e : j ≡ (j - i) + i = omega arith in ap (λ (x : ℕ). 2 ^ x) e ∙ pow-add 2 (j - i) i
 
 -- nothing is left of a word that is moved up by its width or more

@@ -20,8 +20,8 @@ use Rattle.numbers.specs.Word.{most, wordOf}
 use Rattle.numbers.specs.Window.{verdict, markNext, markWord, gaps}
 use Rattle.numbers.specs.Contract.{widthOf, windowOf, emptyWindow, isEmpty, seenBy, soundWindow, noPlace, judged, placed, after, gapsOf}
 use Rattle.numbers.specs.Memory.{member, plainVerdict, plainGaps, Remembers, Below, afterAll}
-pub use Rattle.numbers.proofs.Word.{Typed, word-lt}
-pub use Rattle.numbers.proofs.Adaptor.{width-pos, width-le, width-half, width-most, next-after}
+pub use Rattle.numbers.proofs.Word.{Typed, made, wordAt, four, typed-four, four-same, marks-four, none-is, zeros-none, none-zeros, word-lt}
+pub use Rattle.numbers.proofs.Adaptor.{width-pos, width-le, width-half, width-kept, next-after}
 pub use Rattle.numbers.proofs.Cases.{spent-first, old-first, seen-first, first-agree}
 pub use Rattle.numbers.proofs.Gaps.{gaps-agree}
 pub use Rattle.numbers.proofs.Memory.{member-below}

@@ -1,4 +1,5 @@
 pub mod Bits
+pub mod Words
 pub mod Cases
 pub mod Word
 pub mod Adaptor
@@ -12,3 +13,4 @@ pub mod Laws
 pub mod Told
 pub mod Rows
 pub mod OneAnswer
+pub mod Computing

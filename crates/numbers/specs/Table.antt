@@ -7,7 +7,6 @@ use mathlib.Core.List.{List, [], _∷_}
 use lib.Dec.{eqb}
 use Rattle.answers.specs.Refusal as Refusal
 use Rattle.numbers.specs.Number.{nearest}
-use Rattle.numbers.specs.Word.{most}
 use Rattle.numbers.specs.Contract.{windowOf, placed}
 use Rattle.numbers.specs.declared.window.Rule.{Rule}
 use Rattle.numbers.specs.declared.window.Placed.{Placed}
@@ -34,9 +33,9 @@ refused e low n why = row e low n why 0
 abbrev pub rowWord : Row → ℕ
 rowWord r = cond (eqb (r .next) 0) 0 1
 
--- the declared window's own width, and the largest limit
+-- page 01's width, and the largest limit
 abbrev pub rowRule : Rule
-rowRule = record { width = most; limit = 2 ^ 64 - 1 }
+rowRule = record { width = 64; limit = 2 ^ 64 - 1 }
 
 -- a row with what the definitions answer
 abbrev pub answeredRow : Row → Placed → Row

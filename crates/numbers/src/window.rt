@@ -151,8 +151,8 @@ impl Window {
             };
         }
         let behind = next - 1 - n;
-        let width = rule.span();
-        if width <= behind {
+        let reach = rule.span();
+        if reach <= behind {
             return Placed::refused(Refusal::OLD);
         }
         let seen = marks.test(behind);

@@ -6,26 +6,12 @@ use Rattle.channel.specs.Receiver.{badReceiver, look, change}
 use Rattle.channel.specs.Rules.{stateRows, slotRows, offerRows, cipherRows, markingRows, rows, granted, effectOf, refused, outcome}
 use Rattle.channel.specs.Sender.{badSender, senderRows, buildRows, changeRows, buildOf, buildOut, changeSender}
 use Rattle.channel.specs.View.{noKey}
-use Rattle.numbers.specs.Contract.{widthOf, soundWindow, after, windowOf, seenBy, isEmpty}
-use Rattle.numbers.specs.Memory.{member, nextOf}
-use Rattle.numbers.specs.Number.{whole, nearest, count, gapCount, numberRows}
-use Rattle.numbers.specs.Window.{marked, markNext, markWord, sound}
-use Rattle.numbers.specs.Word.{bit, setBit, wordOf, marksOf}
+use Rattle.numbers.proofs.Computing.{numbersOpen}
 use Rattle.octets.specs.Fields.{field, blank}
 use Rattle.record.proofs.Computing.{recordOpen}
 use Rattle.promises.specs.Run.{afterBy, answersBy, markedBy, allMarked}
 use Rattle.promises.specs.Plain.{oldOf, plainLook, rememberFirst, plainChange}
 use Rattle.promises.specs.SendRun.{sending, usedBy, under, from}
-
--- numbers
-unfoldable pub numbersOpen : Unit {0}
-unfolding whole nearest count gapCount numberRows member nextOf bit setBit wordOf marksOf
-numbersOpen = tt
-
--- windows
-unfoldable pub windowsOpen : Unit {0}
-unfolding widthOf soundWindow after windowOf seenBy isEmpty marked markNext markWord sound
-windowsOpen = tt
 
 -- settings, and the parts of a record, read and written
 unfoldable pub readingOpen : Unit {0}
@@ -49,5 +35,5 @@ runsOpen = tt
 
 -- all of these
 unfoldable pub computing : Unit {0}
-unfolding numbersOpen windowsOpen readingOpen receiverOpen senderOpen runsOpen
+unfolding numbersOpen readingOpen receiverOpen senderOpen runsOpen
 computing = tt

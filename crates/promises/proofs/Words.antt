@@ -16,10 +16,10 @@ use Rattle.channel.specs.declared.receiver.Receiver.{Receiver}
 use Rattle.channel.specs.declared.sender.Sender.{Sender}
 use Rattle.numbers.proofs.Told.{unsound-told}
 use Rattle.numbers.specs.Contract.{windowOf, isEmpty}
-use Rattle.numbers.specs.Word.{wordOf, marksOf}
+use Rattle.numbers.proofs.Computing.{wordOpen}
 use Rattle.octets.specs.Fields.{blank}
 use Rattle.record.proofs.Modes.{clear-mode, sealed-mode}
-use Rattle.record.proofs.Page.{values, mac-chosen}
+use Rattle.record.proofs.Page.{values, mac-chosen, width-chosen}
 use Rattle.record.proofs.Told.{bad-setting}
 use Rattle.record.specs.Reasons.{BadSetting}
 use Rattle.record.specs.Setting.{ruleOf}
@@ -44,7 +44,7 @@ pub sender-good : (s : Sender) → (BadSender s → ⊥) → badSender s ≡ fal
 sender-good s h = untold (bad-sender s) h
 
 zero-blank : isZeroKey zeroKey ≡ true
-unfolding isZeroKey blank isEmpty windowOf wordOf marksOf
+unfolding isZeroKey blank isEmpty windowOf wordOpen
 zero-blank = refl
 
 -- no old key is held, but its fields are not all zero
@@ -73,13 +73,15 @@ pub page-numbers : (s : Setting) → (BadSetting s → ⊥) → PageNumbers s
 page-numbers s h =
     let v = values s in
     let m = mac-chosen s (untold (bad-setting s) h) in
+    let w = width-chosen s (untold (bad-setting s) h) in
     record {
       most = v .most;
       head = v .header;
       bare = v .bare;
       mac = m .0;
       macs = m .1;
-      width = v .rule ∙ v .window;
+      width = w .0;
+      widths = w .1;
       clear = λ k p q. v .clear (clear-mode s k) p q ∙ ap (λ (x : ℕ). p + x) (m .0);
       sealed = λ k p q. v .sealed (sealed-mode s k) p q ∙ ap (λ (x : ℕ). 2 + p + q + x) (m .0);
     }

@@ -50,7 +50,7 @@ pub record CanTake (r : Receiver) (slot : ℕ) (s : Sender) : Type 0 where
   pub iv : keyOf r slot .iv ≡ s .iv
   -- exactly where the number worked out is n. With partial numbers: E ≤ n + 32768, and n ≤ E + 32767 or n ≤ 65535. Without: n is E
   pub reach : Found (s .setting) (keyOf r slot .window .next) (s .next)
-  -- E - n is at most 64
+  -- E - n is at most the window's width
   pub young : keyOf r slot .window .next - s .next ≤ widthOf (ruleOf (r .setting))
   -- n is not marked
   pub fresh : seenBy (keyOf r slot .window) (s .next) ≡ false
@@ -65,6 +65,7 @@ pub record PageNumbers (s : Setting) : Type 0 where
   pub bare : hasPartial s ≡ false → headLen s ≡ 6
   pub mac : macLen s ≡ s .mac
   pub macs : (s .mac ≡ 8) ⊎ (s .mac ≡ 12) ⊎ (s .mac ≡ 16)
-  pub width : widthOf (ruleOf s) ≡ 64
+  pub width : widthOf (ruleOf s) ≡ s .width
+  pub widths : (s .width ≡ 64) ⊎ (s .width ≡ 128) ⊎ (s .width ≡ 192) ⊎ (s .width ≡ 256)
   pub clear : s .mode ≡ 0 → (p q : ℕ) → lengthFor s p q ≡ p + s .mac
   pub sealed : s .mode ≡ 1 → (p q : ℕ) → lengthFor s p q ≡ 2 + p + q + s .mac

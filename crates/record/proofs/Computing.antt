@@ -3,13 +3,13 @@
 use Rattle.record.specs.Header.{sessionOf, partialOf, lengthAt, lengthOf, numberOf, partialFor, headOf}
 use Rattle.record.specs.Nonce.{nonceOf, spread}
 use Rattle.record.specs.Read.{recordRows, placeRows}
-use Rattle.record.specs.Setting.{authOnly, numberFirst, hasPartial, badMac, sameSetting, isZeroSetting, badSetting, openRows, windowWidth}
+use Rattle.record.specs.Setting.{authOnly, numberFirst, hasPartial, badMac, badWidth, sameSetting, isZeroSetting, badSetting, openRows, windowWidth}
 use Rattle.record.specs.Shape.{headLen, macLen, innerLen, mostLength, least, totalOf, startOf, textEnd, assocEnd, plainLen, dataPlace, dataLen, innerBad}
 use Rattle.record.specs.Write.{bodyLen, assocEndFor, formRows, roomRows, bodyOf, frontOf}
 
 -- settings
 unfoldable pub settingOpen : Unit {0}
-unfolding authOnly numberFirst hasPartial badMac sameSetting isZeroSetting badSetting openRows windowWidth
+unfolding authOnly numberFirst hasPartial badMac badWidth sameSetting isZeroSetting badSetting openRows windowWidth
 settingOpen = tt
 
 -- the checks of a record

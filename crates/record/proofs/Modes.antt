@@ -27,7 +27,7 @@ good-mode s g = go (decLe (s .mode) 1)
   where
     go : Dec (s .mode ≤ 1) → s .mode ≤ 1
     go (yes p) = p
-    go (no p) = absurd (bad-setting s .fails g (inl (inl (inl (inl (omega arith))))))
+    go (no p) = absurd (bad-setting s .fails g (inl (inl (inl (inl (inl (omega arith)))))))
 
 -- mode 1 is encryption and authentication
 pub sealed-mode : (s : Setting) → s .mode ≡ 1 → authOnly s ≡ false

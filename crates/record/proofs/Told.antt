@@ -10,7 +10,7 @@ use Rattle.answers.specs.Reasons.{Tells, Told}
 use Rattle.answers.proofs.Reasons.{told-row}
 use Rattle.answers.proofs.Tests.{tells-lt, tells-eq, tells-not, tells-or, tells-and, tells-differ}
 use Rattle.record.specs.declared.setting.Setting.{Setting}
-use Rattle.record.specs.Setting.{authOnly, badMac, badSetting, openRows}
+use Rattle.record.specs.Setting.{authOnly, badMac, badWidth, badSetting, openRows}
 use Rattle.record.specs.Header.{lengthOf}
 use Rattle.record.specs.Shape.{least, totalOf, innerBad}
 use Rattle.record.specs.Read.{recordRows}
@@ -19,13 +19,11 @@ use Rattle.record.specs.Reasons.{BadSetting, TooSmall, TooLong, openReas
 
 -- a setting that is none of a channel
 pub bad-setting : (s : Setting) → Tells (badSetting s) (BadSetting s)
-unfolding badSetting badMac
+unfolding badSetting badMac badWidth
 bad-setting s =
-    tells-or
-    (tells-or
-    (tells-or (tells-or (tells-lt _ _) (tells-lt _ _)) (tells-and (tells-and (tells-differ _ 8) (tells-differ _ 12)) (tells-differ _ 16)))
-    (tells-lt _ _))
-    (tells-eq _ _)
+    let mac = tells-and (tells-and (tells-differ _ 8) (tells-differ _ 12)) (tells-differ _ 16) in
+    let width = tells-and (tells-and (tells-and (tells-differ _ 64) (tells-differ _ 128)) (tells-differ _ 192)) (tells-differ _ 256) in
+    tells-or (tells-or (tells-or (tells-or (tells-or (tells-lt _ _) (tells-lt _ _)) mac) (tells-lt _ _)) width) (tells-eq _ _)
 
 -- 2: what Open refuses
 pub open-told : (s : Setting) → Told (openRows s) (openReasons s)

@@ -16,9 +16,13 @@ use Rattle.record.specs.Write.{lengthFor, totalFor}
 abbrev pub BadMac : Setting → Type 0
 BadMac s = ((s .mac ≡ 8 → ⊥) × (s .mac ≡ 12 → ⊥)) × (s .mac ≡ 16 → ⊥)
 
--- mode above 1, layout above 1 (request g), such a MAC, profile above 1 (request h), or L = 0
+-- another width than 64, 128, 192 or 256 (request f)
+abbrev pub BadWidth : Setting → Type 0
+BadWidth s = (((s .width ≡ 64 → ⊥) × (s .width ≡ 128 → ⊥)) × (s .width ≡ 192 → ⊥)) × (s .width ≡ 256 → ⊥)
+
+-- mode above 1, layout above 1 (request g), such a MAC, profile above 1 (request h), such a width, or L = 0
 abbrev pub BadSetting : Setting → Type 0
-BadSetting s = ((((1 < s .mode) ⊎ (1 < s .layout)) ⊎ BadMac s) ⊎ (1 < s .profile)) ⊎ (s .limit ≡ 0)
+BadSetting s = (((((1 < s .mode) ⊎ (1 < s .layout)) ⊎ BadMac s) ⊎ (1 < s .profile)) ⊎ BadWidth s) ⊎ (s .limit ≡ 0)
 
 -- Length under the MAC's (mode 0), or under 2 more (mode 1)
 abbrev pub TooSmall : Setting → List ℕ → Type 0

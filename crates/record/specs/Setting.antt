@@ -6,16 +6,15 @@ use mathlib.Core.List.{List, [], _∷_}
 use lib.Dec.{ltb, eqb}
 use Rattle.answers.specs.Refusal as Refusal
 use Rattle.answers.specs.Table.{Check, differ}
-use Rattle.numbers.specs.Word.{most}
 use Rattle.numbers.specs.declared.window.Rule.{Rule}
 use Rattle.record.specs.declared.setting.Setting.{Setting}
 
 abbrev pub zeroSetting : Setting
-zeroSetting = record { mode = 0; layout = 0; mac = 0; profile = 0; session = 0; limit = 0 }
+zeroSetting = record { mode = 0; layout = 0; mac = 0; profile = 0; width = 0; session = 0; limit = 0 }
 
 -- page 01's own: what the requests made variable is as it stands there
 abbrev pub pageSetting : ℕ → ℕ → ℕ → Setting
-pageSetting mode session limit = record { mode = mode; layout = 0; mac = 16; profile = 0; session = session; limit = limit }
+pageSetting mode session limit = record { mode = mode; layout = 0; mac = 16; profile = 0; width = 64; session = session; limit = limit }
 
 -- field by field
 unfoldable pub sameSetting : Setting → Setting → Bool
@@ -24,6 +23,7 @@ sameSetting s t =
     && eqb (s .layout) (t .layout)
     && eqb (s .mac) (t .mac)
     && eqb (s .profile) (t .profile)
+    && eqb (s .width) (t .width)
     && eqb (s .session) (t .session)
     && eqb (s .limit) (t .limit)
 
@@ -47,9 +47,13 @@ hasPartial s = eqb (s .profile) 0
 unfoldable pub badMac : Setting → Bool
 badMac s = differ (s .mac) 8 && differ (s .mac) 12 && differ (s .mac) 16
 
--- a mode above 1, a layout above 1, another length of the MAC, a profile above 1, or no usable number
+-- a window remembers 64, 128, 192 or 256 numbers
+unfoldable pub badWidth : Setting → Bool
+badWidth s = differ (s .width) 64 && differ (s .width) 128 && differ (s .width) 192 && differ (s .width) 256
+
+-- a mode above 1, a layout above 1, another length of the MAC, a profile above 1, another width, or no usable number
 unfoldable pub badSetting : Setting → Bool
-badSetting s = ltb 1 (s .mode) || ltb 1 (s .layout) || badMac s || ltb 1 (s .profile) || eqb (s .limit) 0
+badSetting s = ltb 1 (s .mode) || ltb 1 (s .layout) || badMac s || ltb 1 (s .profile) || badWidth s || eqb (s .limit) 0
 
 -- 2: what Open refuses
 unfoldable pub openRows : Setting → List Check
@@ -57,7 +61,7 @@ openRows s = (badSetting s, Refusal.Setting) ∷ []
 
 -- the window's width
 unfoldable pub windowWidth : Setting → ℕ
-windowWidth s = most
+windowWidth s = s .width
 
 -- the rule of its keys
 abbrev pub ruleOf : Setting → Rule

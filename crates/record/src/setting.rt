@@ -1,18 +1,19 @@
 // How a channel is set.
 use numbers::Rule;
-use numbers::Window;
 ghost use mathlib.Core.Path.{_≡_};
 ghost use Rattle.record.specs.Setting.{zeroSetting, authOnly, numberFirst, hasPartial, badSetting, ruleOf};
 
 // Mode 0 is message authentication only, mode 1 encryption and authentication. Layout 0 has the
 // number in the first bytes of a nonce, layout 1 in the last. The MAC has 8, 12 or 16 bytes. Profile 0
-// sends the low 16 bits of the number, profile 1 none of it. Usable numbers are those below the limit.
+// sends the low 16 bits of the number, profile 1 none of it. A window remembers 64, 128, 192 or 256
+// numbers. Usable numbers are those below the limit.
 #[repr(C)]
 pub struct Setting {
     pub mode: u8,
     pub layout: u8,
     pub mac: u8,
     pub profile: u8,
+    pub width: u16,
     pub session: u32,
     pub limit: u64,
 }
@@ -26,6 +27,7 @@ impl Setting {
             layout: 0,
             mac: 0,
             profile: 0,
+            width: 0,
             session: 0,
             limit: 0,
         }
@@ -56,7 +58,11 @@ impl Setting {
         ensures { λ r. ⌜ r ≡ badSetting self ⌝ }
     {
         let odd = (self.mac != 8) & (self.mac != 12) & (self.mac != 16);
-        (1 < self.mode) | (1 < self.layout) | odd | (1 < self.profile) | (self.limit == 0)
+        let uneven = (self.width != 64)
+            & (self.width != 128)
+            & (self.width != 192)
+            & (self.width != 256);
+        (1 < self.mode) | (1 < self.layout) | odd | (1 < self.profile) | uneven | (self.limit == 0)
     }
 
     // The rule of its keys.
@@ -64,7 +70,7 @@ impl Setting {
         ensures { λ r. ⌜ r ≡ ruleOf self ⌝ }
     {
         Rule {
-            width: Window::WIDTH,
+            width: self.width as u64,
             limit: self.limit,
         }
     }

@@ -8,7 +8,7 @@ use native.Mathlib.Omega.{arith}
 use lib.Dec.{eqb}
 use lib.ListN.{length, replicate, length-append, length-take, length-drop}
 use Rattle.octets.specs.Fields.{blank}
-use Rattle.numbers.specs.Word.{wordOf, marksOf}
+use Rattle.numbers.proofs.Computing.{wordOpen}
 use Rattle.numbers.specs.Contract.{windowOf, isEmpty}
 use Rattle.record.specs.Setting.{sameSetting, isZeroSetting}
 use Rattle.channel.specs.declared.receiver.Receiver.{Receiver}
@@ -17,14 +17,14 @@ use Rattle.channel.specs.Key.{isZeroKey}
 use Rattle.channel.specs.Receiver.{isZeroReceiver}
 use Rattle.channel.specs.Sender.{isZeroSender}
 use Rattle.rows.specs.Part.{ivOf}
-use Rattle.rows.specs.Ends.{Ends, freeEnds, isFree, receiverOf, senderOf, endsOf, receiverWords, senderWords, putReceiver, putSender}
+use Rattle.rows.specs.Ends.{Ends, freeEnds, isFree, rowWords, receiverPart, receiverOf, senderOf, endsOf, receiverWords, senderWords, putReceiver, putSender}
 
-pub zeros-free : endsOf (replicate 20 0) ≡ freeEnds
-unfolding receiverOf senderOf ivOf
+pub zeros-free : endsOf (replicate rowWords 0) ≡ freeEnds
+unfolding receiverOf senderOf ivOf windowOf wordOpen
 zeros-free = refl
 
 pub free-told : isFree freeEnds ≡ true
-unfolding isFree isZeroReceiver isZeroSender isZeroSetting sameSetting isZeroKey isEmpty windowOf wordOf marksOf blank
+unfolding isFree isZeroReceiver isZeroSender isZeroSetting sameSetting isZeroKey isEmpty windowOf wordOpen blank
 free-told = refl
 
 -- a receiver with a limit is not all zeros
@@ -34,7 +34,7 @@ limit-not-free e h = rw (h, and-false)
 
 -- ---- lengths
 
-pub receiver-length : (r : Receiver) → length (receiverWords r) ≡ 13
+pub receiver-length : (r : Receiver) → length (receiverWords r) ≡ receiverPart
 unfolding receiverWords
 receiver-length r = refl
 
@@ -42,8 +42,8 @@ pub sender-length : (s : Sender) → length (senderWords s) ≡ 7
 unfolding senderWords
 sender-length s = refl
 
-pub put-receiver-length : (w : List ℕ) (r : Receiver) → length w ≡ 20 → length (putReceiver w r) ≡ 20
+pub put-receiver-length : (w : List ℕ) (r : Receiver) → length w ≡ rowWords → length (putReceiver w r) ≡ rowWords
 put-receiver-length w r h = simp (length-append, length-drop, receiver-length) (omega arith)
 
-pub put-sender-length : (w : List ℕ) (s : Sender) → length w ≡ 20 → length (putSender w s) ≡ 20
+pub put-sender-length : (w : List ℕ) (s : Sender) → length w ≡ rowWords → length (putSender w s) ≡ rowWords
 put-sender-length w s h = simp (length-append, length-take, sender-length) (omega arith)

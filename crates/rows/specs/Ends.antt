@@ -1,4 +1,4 @@
--- A row: a receiver and a sender, and the twenty words that they lie in.
+-- A row: a receiver and a sender, and the words that they lie in.
 -- Assumes nothing.
 use Prim.Native.Nat.{ℕ}
 use mathlib.Core.Bool.{Bool, not, _&&_}
@@ -9,7 +9,7 @@ use Rattle.channel.specs.Receiver.{zeroReceiver, isZeroReceiver}
 use Rattle.channel.specs.Sender.{zeroSender, isZeroSender}
 use Rattle.channel.specs.declared.receiver.Receiver.{Receiver}
 use Rattle.channel.specs.declared.sender.Sender.{Sender}
-use Rattle.rows.specs.Part.{settingOf, countOf, ivOf, keyOf, heldOf, settingWords, ivWords, keyWords, heldWord}
+use Rattle.rows.specs.Part.{settingOf, countOf, ivOf, fourAt, keyOf, heldOf, settingWords, ivWords, keyWords, heldWord}
 
 -- ---- the two ends of a row
 
@@ -44,9 +44,13 @@ withSender e s = record { receiver = e .receiver; sender = s }
 
 -- ---- read from its words
 
--- how many words are the receiver's; the others are the sender's
+-- how many words it has
+abbrev pub rowWords : ℕ
+rowWords = 26
+
+-- how many of them are the receiver's; the others are the sender's
 abbrev pub receiverPart : ℕ
-receiverPart = 13
+receiverPart = 19
 
 unfoldable pub receiverOf : List ℕ → Receiver
 receiverOf w =
@@ -54,19 +58,19 @@ receiverOf w =
     record {
       setting = settingOf (at 0) (at 1) (at 2);
       count = countOf (at 3);
-      current = keyOf (at 4) (at 5) (at 6) (at 7);
-      held = heldOf (at 8);
-      old = keyOf (at 9) (at 10) (at 11) (at 12);
+      current = keyOf (at 4) (at 5) (at 6) (fourAt w 7);
+      held = heldOf (at 11);
+      old = keyOf (at 12) (at 13) (at 14) (fourAt w 15);
     }
 
 unfoldable pub senderOf : List ℕ → Sender
 senderOf w =
     let at : ℕ → ℕ = λ k. getD w k 0 in
     record {
-      setting = settingOf (at 13) (at 14) (at 15);
-      count = countOf (at 16);
-      next = at 17;
-      iv = ivOf (at 18) (at 19);
+      setting = settingOf (at 19) (at 20) (at 21);
+      count = countOf (at 22);
+      next = at 23;
+      iv = ivOf (at 24) (at 25);
     }
 
 abbrev pub endsOf : List ℕ → Ends

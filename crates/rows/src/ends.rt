@@ -16,6 +16,7 @@ fn blank_setting(setting: Setting) -> bool
         & (setting.layout == 0)
         & (setting.mac == 0)
         & (setting.profile == 0)
+        & (setting.width == 0)
         & (setting.session == 0)
         & (setting.limit == 0)
 }

@@ -6,15 +6,18 @@ use numbers::Window;
 use record::Setting;
 ghost use mathlib.Core.Path.{_≡_};
 ghost use lib.ListN.{getD};
-ghost use Rattle.rows.specs.Part.{settingOf, countOf, ivOf, keyOf, heldOf, settingWords, ivWords, keyWords, heldWord};
+ghost use Rattle.rows.specs.Part.{settingOf, countOf, ivOf, fourAt, keyOf, heldOf, settingWords, ivWords, keyWords, heldWord};
 
 // What a byte holds is below this.
 const BYTE: u64 = 256;
 
+// What two bytes hold is below this.
+const PAIR: u64 = 65536;
+
 // What half a word holds is below this.
 const HALF: u64 = 4294967296;
 
-// The mode, the layout, the MAC's length and the profile share a word.
+// The mode, the layout, the MAC's length, the profile and the width share a word.
 pub(crate) fn setting_of(head: u64, session: u64, limit: u64) -> Setting
     ensures { λ r. ⌜ r ≡ settingOf head session limit ⌝ }
 {
@@ -23,6 +26,7 @@ pub(crate) fn setting_of(head: u64, session: u64, limit: u64) -> Setting
         layout: (head / BYTE % BYTE) as u8,
         mac: (head / BYTE / BYTE % BYTE) as u8,
         profile: (head / BYTE / BYTE / BYTE % BYTE) as u8,
+        width: (head / HALF % PAIR) as u16,
         session: (session % HALF) as u32,
         limit: limit,
     }
@@ -45,12 +49,12 @@ pub(crate) fn iv_of(head: u64, tail: u64) -> [u8; 12]
     iv
 }
 
-pub(crate) fn key_of(head: u64, tail: u64, next: u64, marks: u64) -> Key
-    ensures { λ r. ⌜ r ≡ keyOf head tail next marks ⌝ }
+pub(crate) fn key_of(head: u64, tail: u64, next: u64, words: [u64; 4]) -> Key
+    ensures { λ r. ⌜ r ≡ keyOf head tail next words ⌝ }
 {
     let window = Window {
         next: next,
-        marks: Marks { word: marks },
+        marks: Marks { words: words },
     };
     Key {
         iv: iv_of(head, tail),
@@ -62,7 +66,8 @@ pub(crate) fn key_of(head: u64, tail: u64, next: u64, marks: u64) -> Key
 pub(crate) fn setting_words(setting: Setting) -> [u64; 3]
     ensures { λ r. ⌜ (r ≡ settingWords setting) × (settingOf (getD r 0 0) (getD r 1 0) (getD r 2 0) ≡ setting) ⌝ }
 {
-    let top = setting.mac as u64 + BYTE * (setting.profile as u64);
+    let last = setting.profile as u64 + BYTE * (setting.width as u64);
+    let top = setting.mac as u64 + BYTE * last;
     let upper = setting.layout as u64 + BYTE * top;
     let head = setting.mode as u64 + BYTE * upper;
     [head, setting.session as u64, setting.limit]
@@ -89,10 +94,11 @@ pub(crate) fn iv_words(iv: [u8; 12]) -> [u64; 2]
     [low + HALF * high, tail]
 }
 
-pub(crate) fn key_words(key: Key) -> [u64; 4]
-    ensures { λ r. ⌜ (r ≡ keyWords key) × (keyOf (getD r 0 0) (getD r 1 0) (getD r 2 0) (getD r 3 0) ≡ key) ⌝ }
+pub(crate) fn key_words(key: Key) -> [u64; 7]
+    ensures { λ r. ⌜ (r ≡ keyWords key) × (keyOf (getD r 0 0) (getD r 1 0) (getD r 2 0) (fourAt r 3) ≡ key) ⌝ }
 {
     let iv = key.iv;
     let w = iv_words(iv);
-    [w[0], w[1], key.window.next, key.window.marks.word]
+    let m = key.window.marks.words;
+    [w[0], w[1], key.window.next, m[0], m[1], m[2], m[3]]
 }

@@ -6,20 +6,20 @@ use channel::Sender;
 ghost use mathlib.Core.Path.{_≡_};
 ghost use Rattle.rows.specs.Ends.{receiverOf, senderOf, endsOf, isFree, withReceiver, withSender, putReceiver, putSender};
 
-// Thirteen words of the receiver, then seven of the sender, a word for each number.
+// Nineteen words of the receiver, then seven of the sender.
 pub struct Row {
-    pub words: [u64; 20],
+    pub words: [u64; 26],
 }
 
 impl Row {
-    pub const WORDS: usize = 20;
+    pub const WORDS: usize = 26;
 
     // The places of the receiver's Session ID and limit, and of the sender's Session ID.
     pub const ID: usize = 1;
 
     pub const LIMIT: usize = 2;
 
-    pub const PEER_ID: usize = 14;
+    pub const PEER_ID: usize = 20;
 
     pub fn receiver(self) -> Receiver
         ensures { λ r. ⌜ r ≡ receiverOf (self .words) ⌝ }
@@ -28,9 +28,9 @@ impl Row {
         Receiver {
             setting: part::setting_of(w[0], w[1], w[2]),
             count: part::count_of(w[3]),
-            current: part::key_of(w[4], w[5], w[6], w[7]),
-            held: w[8] % 2 == 1,
-            old: part::key_of(w[9], w[10], w[11], w[12]),
+            current: part::key_of(w[4], w[5], w[6], [w[7], w[8], w[9], w[10]]),
+            held: w[11] % 2 == 1,
+            old: part::key_of(w[12], w[13], w[14], [w[15], w[16], w[17], w[18]]),
         }
     }
 
@@ -39,10 +39,10 @@ impl Row {
     {
         let w = self.words;
         Sender {
-            setting: part::setting_of(w[13], w[14], w[15]),
-            count: part::count_of(w[16]),
-            next: w[17],
-            iv: part::iv_of(w[18], w[19]),
+            setting: part::setting_of(w[19], w[20], w[21]),
+            count: part::count_of(w[22]),
+            next: w[23],
+            iv: part::iv_of(w[24], w[25]),
         }
     }
 
@@ -69,18 +69,24 @@ impl Row {
                 c[1],
                 c[2],
                 c[3],
+                c[4],
+                c[5],
+                c[6],
                 h,
                 o[0],
                 o[1],
                 o[2],
                 o[3],
-                w[13],
-                w[14],
-                w[15],
-                w[16],
-                w[17],
-                w[18],
+                o[4],
+                o[5],
+                o[6],
                 w[19],
+                w[20],
+                w[21],
+                w[22],
+                w[23],
+                w[24],
+                w[25],
             ],
         }
     }
@@ -110,6 +116,12 @@ impl Row {
                 w[10],
                 w[11],
                 w[12],
+                w[13],
+                w[14],
+                w[15],
+                w[16],
+                w[17],
+                w[18],
                 s[0],
                 s[1],
                 s[2],

@@ -13,6 +13,7 @@ pub(crate) fn setting(mode: u8) -> Setting {
         layout: 0,
         mac: 16,
         profile: 0,
+        width: 64,
         session: SESSION,
         limit: 18446744073709551615,
     }

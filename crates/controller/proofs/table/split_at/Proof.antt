@@ -16,7 +16,7 @@ returns : tie.Need-returns
 unfolding receiverOf senderOf isSplit
 returns c =
     let a = c .before .before .before .args in
-    ap (λ (w : List ℕ). differ (getD w 1 0 % 4294967296) (getD w 14 0 % 4294967296)) (words-within (a .table .now) (a .at) (search needs))
+    ap (λ (w : List ℕ). differ (getD w 1 0 % 4294967296) (getD w 20 0 % 4294967296)) (words-within (a .table .now) (a .at) (search needs))
 
 returns-2 : tie.Need-returns-2
 unfolding receiverOf senderOf isSplit

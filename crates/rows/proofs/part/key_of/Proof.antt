@@ -1,11 +1,8 @@
-use Rattle.numbers.specs.Contract.{windowOf}
-use Rattle.numbers.specs.Word.{marksOf}
 use borrow.Author.Needs.{needs}
 use Rattle.rows.proofs.part.key_of.Statement.{statement}
 use Rattle.rows.proofs.part.key_of.Tie as tie
 
 returns : tie.Need-returns
-unfolding windowOf marksOf
 returns c = rw (c .iv-of .ensures)
 
 pub key-of-spec : {M : Type 1} → statement M

@@ -6,10 +6,10 @@ use Rattle.numbers.proofs.marks.Marks.test.Statement.{statement}
 use Rattle.numbers.proofs.marks.Marks.test.Tie as tie
 
 returns : tie.Need-returns
-returns c = test-out _ _ (search needs) (c .if1 .taken)
+returns c = test-out _ (search needs) _ (c .if1 .taken)
 
 returns-2 : tie.Need-returns-2
-returns-2 c = test-in _ _
+returns-2 c = test-in _ (search needs) _
 
 pub test-spec : {M : Type 1} → statement M
-test-spec = tie.close (tie.spec returns (λ c. search needs) returns-2)
+test-spec = tie.close (tie.spec returns (λ c. search needs) (λ c. search needs) (λ c. search needs) returns-2)

@@ -2,6 +2,7 @@
 -- Assumes nothing.
 use Rattle.record.specs.Setting.{windowWidth}
 use mathlib.Core.Path.{refl}
+use borrow.Author.Needs.{needs}
 use Rattle.record.proofs.setting.Setting.rule.Statement.{statement}
 use Rattle.record.proofs.setting.Setting.rule.Tie as tie
 
@@ -10,4 +11,4 @@ unfolding windowWidth
 returns c = refl
 
 pub rule-spec : {M : Type 1} → statement M
-rule-spec = tie.close (tie.spec returns)
+rule-spec = tie.close (tie.spec (λ c. search needs) returns)

@@ -11,13 +11,13 @@ returns : tie.Need-returns
 unfolding receiverOf senderOf receiverWords
 returns c =
     let w = c .before .before .before .before .before .before .before .before .before .args .self .words in
-    let long : length w ≡ 20 = search needs in
+    let long : length w ≡ 26 = search needs in
     let s = c .before .before .before .before .setting-words .ensures in
     let n = c .before .before .before .count-word .ensures in
     let k = c .before .before .key-words .ensures in
     let h = c .before .held-word .ensures in
     let o = c .key-words2 .ensures in (
-      λ i. listed (s .0 i) 0 3 ++ (n .0 i ∷ (listed (k .0 i) 0 4 ++ (h .0 i ∷ (listed (o .0 i) 0 4 ++ listed-last w 13 7 (sym long) i)))),
+      λ i. listed (s .0 i) 0 3 ++ (n .0 i ∷ (listed (k .0 i) 0 7 ++ (h .0 i ∷ (listed (o .0 i) 0 7 ++ listed-last w 19 7 (sym long) i)))),
       λ i. record { receiver = record { setting = s .1 i; count = n .1 i; current = k .1 i; held = h .1 i; old = o .1 i }; sender = senderOf w },
     )
 
@@ -30,6 +30,12 @@ with-receiver-spec =
     (λ c κs. search needs)
     (λ c κs. search needs)
     (λ c κs. search needs)
+    (λ c. search needs)
+    (λ c. search needs)
+    (λ c. search needs)
+    (λ c. search needs)
+    (λ c. search needs)
+    (λ c. search needs)
     (λ c. search needs)
     (λ c. search needs)
     (λ c. search needs)

@@ -12,11 +12,11 @@ unfolding receiverOf senderOf senderWords
 returns c =
     let w = c .before .before .before .before .before .before .args .self .words in
     let sender = c .before .before .before .before .before .before .args .sender in
-    let long : length w ≡ 20 = search needs in
+    let long : length w ≡ 26 = search needs in
     let s = c .before .before .setting-words .ensures in
     let n = c .before .count-word .ensures in
     let v = c .iv-words .ensures in (
-      λ i. take 13 (listed-last w 0 20 (sym long) i) ++ (listed (s .0 i) 0 3 ++ (n .0 i ∷ sender .next ∷ listed (v .0 i) 0 2)),
+      λ i. take 19 (listed-last w 0 26 (sym long) i) ++ (listed (s .0 i) 0 3 ++ (n .0 i ∷ sender .next ∷ listed (v .0 i) 0 2)),
       λ i. record { receiver = receiverOf w; sender = record { setting = s .1 i; count = n .1 i; next = sender .next; iv = v .1 i } },
     )
 
@@ -27,6 +27,12 @@ with-sender-spec =
     (λ c κs. search needs)
     (λ c κs. search needs)
     (λ c κs. search needs)
+    (λ c. search needs)
+    (λ c. search needs)
+    (λ c. search needs)
+    (λ c. search needs)
+    (λ c. search needs)
+    (λ c. search needs)
     (λ c. search needs)
     (λ c. search needs)
     (λ c. search needs)
