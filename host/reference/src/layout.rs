@@ -28,13 +28,17 @@ impl Record {
     }
 }
 
-/// Width of the receive window.
+/// Sizes of the receive window.
 #[derive(Clone, Copy, Debug)]
 pub struct Window;
 
 impl Window {
-    /// How many numbers below E the window knows.
-    pub const WIDTH: u32 = 64;
+    /// The widths that Open takes: how many numbers below E the window knows.
+    pub const WIDTHS: [u16; 4] = [64, 128, 192, 256];
+    /// How many 64-bit words a window has, whatever its width.
+    pub const WORDS: usize = 4;
+    /// How many bits these words have.
+    pub const BITS: u16 = 256;
 }
 
 /// Bytes of the MCTP wrapping.

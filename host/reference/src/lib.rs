@@ -5,7 +5,7 @@
 //!
 //! * [`memory`]: the plain one. Its receiver remembers every number marked
 //!   under every key, and works out all else from those sets.
-//! * [`fast`]: the quick one, with a 64-bit window word per key.
+//! * [`fast`]: the quick one, with the words of a window per key.
 //!
 //! [`table`] holds sixteen channels of the plain one by Session ID, and
 //! [`fast::Table`] delivers to sixteen of the quick one.
@@ -28,7 +28,7 @@ pub mod version;
 
 pub use answers::{Built, Offered, Opened, Settled};
 pub use kind::Kind;
-pub use raw::{RawKey, RawReceiver, RawRow, RawSender, RawTable};
+pub use raw::{Marks, RawKey, RawReceiver, RawRow, RawSender, RawTable};
 pub use refusal::Refusal;
 pub use setting::{Iv, Nonce, Setting};
 pub use table::Table;

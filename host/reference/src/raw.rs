@@ -16,6 +16,10 @@ pub struct RawSender {
     pub iv: Iv,
 }
 
+/// The words of a window, the lowest first: bit i % 64 of word i / 64 set
+/// means that E - 1 - i is marked.
+pub type Marks = [u64; layout::Window::WORDS];
+
 /// One receive key.
 #[derive(Clone, Copy, Debug, Default, PartialEq, Eq, Hash)]
 pub struct RawKey {
@@ -23,8 +27,8 @@ pub struct RawKey {
     pub iv: Iv,
     /// E: 0 when nothing is marked, else the highest marked number plus 1.
     pub next: u64,
-    /// The window word: bit i set means that E - 1 - i is marked.
-    pub marks: u64,
+    /// The window.
+    pub marks: Marks,
 }
 
 /// A receiver's state.

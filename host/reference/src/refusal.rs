@@ -21,7 +21,7 @@ pub enum Refusal {
     Small = 7,
     /// The number is not below L.
     Spent = 8,
-    /// More than 64 below E.
+    /// Further below E than the window is wide.
     Old = 9,
     /// Marked already.
     Repeat = 10,

@@ -19,6 +19,8 @@ pub struct Setting {
     pub mac: u8,
     /// 0 has the partial number in its header; 1, for the bench cable, has not.
     pub profile: u8,
+    /// How many numbers below E the window remembers: 64, 128, 192 or 256.
+    pub width: u16,
     /// Session ID of the channel.
     pub session: u32,
     /// Record limit L: usable numbers are 0 to L - 1 for each key.
@@ -26,8 +28,8 @@ pub struct Setting {
 }
 
 impl Setting {
-    /// A setting as page 01 alone has it: nonce layout 0, 16 MAC bytes and the
-    /// partial number in the header.
+    /// A setting as page 01 alone has it: nonce layout 0, 16 MAC bytes, the
+    /// partial number in the header, and a window of 64 numbers.
     #[must_use]
     pub const fn new(mode: u8, session: u32, limit: u64) -> Self {
         Setting {
@@ -35,6 +37,7 @@ impl Setting {
             layout: 0,
             mac: 16,
             profile: 0,
+            width: 64,
             session,
             limit,
         }

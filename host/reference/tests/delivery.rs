@@ -68,7 +68,8 @@ impl<V: Version> Line<V> {
 
     /// One of the last messages, in any order, again or damaged.
     fn deliver(&mut self) {
-        let last = self.bridge.len().min(70) as u64;
+        let reach = usize::from(self.setting.width) + 6;
+        let last = self.bridge.len().min(reach) as u64;
         let back = 1 + self.rng.below(last) as usize;
         let mut msg = self.bridge[self.bridge.len() - back].clone();
         if self.rng.one_in(6) {
@@ -133,7 +134,7 @@ fn what_is_handed_out_was_sent<V: Version>() {
         let mut line = Line::<V>::new(setting, seed);
         line.run(60_000);
         // Without a number on the wire only the next record in order passes.
-        let least = [12_000, 200][usize::from(setting.profile)];
+        let least = [10_000, 200][usize::from(setting.profile)];
         assert!(line.handed > least, "{}", line.handed);
     }
 }

@@ -3,7 +3,7 @@
 
 mod common;
 
-use common::{key, receiver, receiver_with_old, record, sender};
+use common::{key, low_word, receiver, receiver_with_old, record, sender};
 use reference::version::{ReceiverCalls, SenderCalls, Version};
 use reference::{RawKey, RawReceiver, RawSender, Setting};
 
@@ -85,7 +85,7 @@ fn settle_after_offer<V: Version>() {
         let settled = receiver.settle(&rec, 0, count, number, passed, plain);
         assert_eq!(settled.answer, answer);
         let marked = answer == 0 || answer == 14;
-        let marks = 1 | u64::from(marked) << 63;
+        let marks = low_word(1 | u64::from(marked) << 63);
         assert_eq!(receiver.raw().current.marks, marks);
     }
 }

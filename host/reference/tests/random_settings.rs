@@ -10,11 +10,12 @@ use reference::Setting;
 type Choice = fn(&Setting) -> u16;
 
 /// The choices by name, with their good values.
-const CHOICES: [(&str, Choice, &[u16]); 4] = [
+const CHOICES: [(&str, Choice, &[u16]); 5] = [
     ("mode", |setting| u16::from(setting.mode), &[0, 1]),
     ("layout", |setting| u16::from(setting.layout), &[0, 1]),
     ("mac", |setting| u16::from(setting.mac), &[8, 12, 16]),
     ("profile", |setting| u16::from(setting.profile), &[0, 1]),
+    ("width", |setting| setting.width, &[64, 128, 192, 256]),
 ];
 
 /// The values that a choice takes in many settings.

@@ -2,7 +2,7 @@
 
 mod common;
 
-use common::{bad_settings, key, receiver, receiver_with_old, record, sender, IV};
+use common::{bad_settings, key, low_word, receiver, receiver_with_old, record, sender, IV};
 use reference::version::{ReceiverCalls, SenderCalls, Version};
 use reference::{RawKey, RawReceiver, RawSender, Setting};
 
@@ -62,11 +62,18 @@ fn bad_states() -> Vec<RawReceiver> {
         stray(last_iv_byte),
         stray(RawKey {
             next: 1,
-            marks: 1,
+            marks: low_word(1),
             ..zero
         }),
         stray(RawKey { next: 1, ..zero }),
-        stray(RawKey { marks: 1, ..zero }),
+        stray(RawKey {
+            marks: low_word(1),
+            ..zero
+        }),
+        stray(RawKey {
+            marks: [0, 0, 0, 1 << 63],
+            ..zero
+        }),
         RawReceiver { count: 0, ..good },
     ]
 }

@@ -345,7 +345,7 @@ fn inner_marks_in_its_row_and_nothing_else() {
     );
     let mut marked = before;
     marked[3].receiver.current.next = 6;
-    marked[3].receiver.current.marks = 1;
+    marked[3].receiver.current.marks[0] = 1;
     assert_eq!(table.raw(), marked);
 }
 

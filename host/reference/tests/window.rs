@@ -2,7 +2,7 @@
 
 mod common;
 
-use common::{key, receiver, receiver_with_old, record};
+use common::{key, low_word, receiver, receiver_with_old, record};
 use reference::version::{ReceiverCalls, Version};
 use reference::{RawKey, RawReceiver};
 
@@ -12,12 +12,13 @@ fn take<R: ReceiverCalls>(receiver: &mut R, slot: u8, count: u32, n: u64) -> u8 
     receiver.settle(&rec, slot, count, n, true, &[]).answer
 }
 
-/// E and the word after marking n.
+/// E and the lowest word, the only one at width 64, after marking n.
 fn after<V: Version>(next: u64, marks: u64, n: u64) -> (u64, u64) {
     let mut receiver = V::Receiver::from_raw(receiver(0, next, marks));
     assert_eq!(take(&mut receiver, 0, 0, n), 0);
     let RawKey { next, marks, .. } = receiver.raw().current;
-    (next, marks)
+    assert_eq!(marks, low_word(marks[0]));
+    (next, marks[0])
 }
 
 fn moving_up<V: Version>() {

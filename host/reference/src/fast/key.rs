@@ -20,6 +20,12 @@ impl Key {
             window: Window::default(),
         }
     }
+
+    /// Whether every field is zero, as where no old key is held.
+    #[inline]
+    pub(super) fn is_zero(&self) -> bool {
+        self.iv == [0; 12] && self.window.is_zero()
+    }
 }
 
 impl From<RawKey> for Key {

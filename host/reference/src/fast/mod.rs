@@ -1,5 +1,5 @@
 //! The quick version: the same answers as [`crate::memory`], with a window
-//! word per key, one load for the header, and no allocation. The State rule
+//! of words per key, one load for the header, and no allocation. The State rule
 //! is checked on every call here too, so the two do the same work.
 
 mod key;

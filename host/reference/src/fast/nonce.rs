@@ -8,12 +8,17 @@ use crate::setting::{Iv, Nonce};
 #[must_use]
 pub fn nonce(layout: u8, iv: &Iv, number: u64) -> Nonce {
     let mut nonce = *iv;
-    let (first, digits) = match layout {
-        1 => (4, number.to_be_bytes()),
-        _ => (0, number.to_le_bytes()),
-    };
-    for (byte, digit) in nonce[first..].iter_mut().zip(digits) {
-        *byte ^= digit;
+    // Both places are fixed, so that each is one 8-byte step.
+    match layout {
+        1 => xor(&mut nonce[4..], number.to_be_bytes()),
+        _ => xor(&mut nonce[..8], number.to_le_bytes()),
     }
     nonce
+}
+
+#[inline]
+fn xor(bytes: &mut [u8], digits: [u8; 8]) {
+    for (byte, digit) in bytes.iter_mut().zip(digits) {
+        *byte ^= digit;
+    }
 }

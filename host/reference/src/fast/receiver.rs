@@ -78,7 +78,7 @@ impl Receiver {
     #[must_use]
     pub fn gaps(&self, slot: u8) -> (u8, u32) {
         match self.key(slot) {
-            Ok((_, key)) => (0, key.window.gaps()),
+            Ok((_, key)) => (0, key.window.gaps(self.setting.width)),
             Err(refusal) => (refusal.number(), 0),
         }
     }
@@ -152,13 +152,13 @@ impl Receiver {
     /// The State rule.
     #[inline]
     fn is_bad(&self) -> bool {
-        let limit = self.setting.limit;
+        let setting = &self.setting;
         let bad_old = if self.held {
-            self.count == 0 || self.old.window.is_bad(limit)
+            self.count == 0 || self.old.window.is_bad(setting)
         } else {
-            self.old != Key::default()
+            !self.old.is_zero()
         };
-        setting_is_bad(&self.setting) || self.current.window.is_bad(limit) || bad_old
+        setting_is_bad(setting) || self.current.window.is_bad(setting) || bad_old
     }
 
     /// The slot's key with its key count, or State or Key.
@@ -179,7 +179,7 @@ impl Receiver {
     fn check(&self, rec: &[u8], slot: u8) -> Result<(&Key, Checked), Refusal> {
         let (count, key) = self.key(slot)?;
         let header = read_header(rec, &self.setting)?;
-        let number = key.window.judge(header.low, self.setting.limit)?;
+        let number = key.window.judge(header.low, &self.setting)?;
         let checked = Checked {
             count,
             number,
@@ -215,7 +215,7 @@ impl Receiver {
         } else {
             &mut self.old
         };
-        key.window.mark(checked.number);
+        key.window.mark(checked.number, self.setting.width);
         let (place, length) = data_part(self.setting.profile, plain, sealed)?;
         Ok(Settled {
             answer: 0,

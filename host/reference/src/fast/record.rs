@@ -15,8 +15,9 @@ pub(super) struct Header {
 #[inline]
 pub(super) fn setting_is_bad(setting: &Setting) -> bool {
     let known_mac = matches!(setting.mac, 8 | 12 | 16);
-    let known = setting.mode <= 1 && setting.layout <= 1 && known_mac && setting.profile <= 1;
-    !known || setting.limit == 0
+    let known_width = matches!(setting.width, 64 | 128 | 192 | 256);
+    let known = setting.mode <= 1 && setting.layout <= 1 && setting.profile <= 1;
+    !(known && known_mac && known_width) || setting.limit == 0
 }
 
 /// Length of a record with neither data nor random bytes.

@@ -45,15 +45,16 @@ impl Channel {
 
     /// The state as plain fields, worked out from the sets.
     pub(super) fn raw(&self) -> RawReceiver {
+        let width = self.setting.width;
         let old = if self.held {
-            self.keys[&(self.count - 1)].raw()
+            self.keys[&(self.count - 1)].raw(width)
         } else {
             RawKey::default()
         };
         RawReceiver {
             setting: self.setting,
             count: self.count,
-            current: self.keys[&self.count].raw(),
+            current: self.keys[&self.count].raw(width),
             held: self.held,
             old,
         }
@@ -72,7 +73,7 @@ impl Channel {
     fn weigh(&self, rec: &[u8], slot: u8) -> Result<Weighed, Refusal> {
         let count = self.count_of(slot)?;
         let header = read_header(rec, &self.setting)?;
-        let number = self.keys[&count].judge(header.low, self.setting.limit)?;
+        let number = self.keys[&count].judge(header.low, &self.setting)?;
         Ok(Weighed {
             count,
             number,
@@ -81,7 +82,7 @@ impl Channel {
     }
 
     pub(super) fn gaps(&self, slot: u8) -> Result<u32, Refusal> {
-        Ok(self.keys[&self.count_of(slot)?].gaps())
+        Ok(self.keys[&self.count_of(slot)?].gaps(self.setting.width))
     }
 
     pub(super) fn offer(&self, rec: &[u8], slot: u8) -> Result<Offered, Refusal> {

@@ -1,7 +1,7 @@
 //! The plain version. Numbers are whole numbers (wide enough never to wrap),
 //! bytes are base-256 digits, and the receiver remembers sets: every number
 //! marked under every key, none forgotten. E, Old, Repeat, the gap count and
-//! the window word are worked out from the sets each time they are wanted.
+//! the window words are worked out from the sets each time they are wanted.
 
 mod channel;
 mod digits;

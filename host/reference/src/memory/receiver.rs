@@ -54,7 +54,7 @@ impl Receiver {
         Receiver { kept }
     }
 
-    /// The state as plain fields; E and the word are worked out from the sets.
+    /// The state as plain fields; E and the words are worked out from the sets.
     #[must_use]
     pub fn raw(&self) -> RawReceiver {
         match &self.kept {

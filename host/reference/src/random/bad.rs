@@ -2,7 +2,8 @@
 
 use super::rng::Rng;
 use super::states::{good_receiver, good_sender, good_setting};
-use crate::raw::{RawKey, RawReceiver, RawSender};
+use crate::layout::Window;
+use crate::raw::{Marks, RawKey, RawReceiver, RawSender};
 use crate::setting::Setting;
 
 /// A setting, bad about once in four times.
@@ -36,12 +37,15 @@ pub fn any_receiver(rng: &mut Rng) -> RawReceiver {
 }
 
 fn break_setting(rng: &mut Rng, setting: &mut Setting) {
-    match rng.below(6) {
+    match rng.below(7) {
         0 => setting.mode = above_one(rng),
         1 => setting.mode = rng.word() as u8,
         2 => setting.layout = above_one(rng),
         3 => setting.mac = rng.pick(&[0, 1, 4, 7, 9, 10, 11, 13, 15, 17, 24, 32, 255]),
         4 => setting.profile = above_one(rng),
+        5 => {
+            setting.width = rng.pick(&[0, 1, 32, 63, 65, 96, 127, 255, 257, 320, 16_384, u16::MAX])
+        }
         _ => setting.limit = 0,
     }
 }
@@ -52,11 +56,11 @@ fn above_one(rng: &mut Rng) -> u8 {
 }
 
 fn break_receiver(rng: &mut Rng, state: &mut RawReceiver) {
-    let limit = state.setting.limit;
+    let setting = state.setting;
     match rng.below(8) {
         0 => break_setting(rng, &mut state.setting),
-        1 | 2 => break_key(rng, &mut state.current, limit),
-        3 | 4 => break_key(rng, &mut state.old, limit),
+        1 | 2 => break_key(rng, &mut state.current, &setting),
+        3 | 4 => break_key(rng, &mut state.old, &setting),
         5 => leave_stray_old(rng, state),
         6 => (state.held, state.count) = (true, 0),
         _ => *state = scramble(rng),
@@ -64,20 +68,36 @@ fn break_receiver(rng: &mut Rng, state: &mut RawReceiver) {
 }
 
 /// One clause of the State rule for a key, or any fields at all.
-fn break_key(rng: &mut Rng, key: &mut RawKey, limit: u64) {
-    match rng.below(4) {
-        0 => key.next = above(rng, limit),
+fn break_key(rng: &mut Rng, key: &mut RawKey, setting: &Setting) {
+    let width = u64::from(setting.width);
+    match rng.below(5) {
+        0 => key.next = above(rng, setting.limit),
         1 => {
-            key.next = rng.below(64);
-            let bit = key.next + rng.below(64 - key.next);
-            key.marks = 1 | 1 << bit;
+            key.next = rng.below(width);
+            key.marks = [1, 0, 0, 0];
+            set_bit_from(rng, key.next, &mut key.marks);
         }
-        2 => key.marks &= !1,
+        2 => set_bit_from(rng, width, &mut key.marks),
+        3 => key.marks[0] &= !1,
         _ => {
             key.next = rng.word();
-            key.marks = rng.word();
+            key.marks = words(rng);
         }
     }
+}
+
+/// One bit of a window at this one or above, often the first of them; none
+/// where the window ends before.
+fn set_bit_from(rng: &mut Rng, first: u64, marks: &mut Marks) {
+    let above = u64::from(Window::BITS).saturating_sub(first);
+    if above > 0 {
+        let bit = first + if rng.one_in(2) { 0 } else { rng.below(above) };
+        marks[(bit / 64) as usize] |= 1 << (bit % 64);
+    }
+}
+
+fn words(rng: &mut Rng) -> Marks {
+    std::array::from_fn(|_| rng.word())
 }
 
 /// No old key held, but one of its fields not zero.
@@ -91,7 +111,7 @@ fn leave_stray_old(rng: &mut Rng, state: &mut RawReceiver) {
     match stray {
         0 => state.old.iv[rng.below(12) as usize] = 1 + rng.below(255) as u8,
         1 => state.old.next = 1,
-        _ => state.old.marks = 1,
+        _ => state.old.marks[rng.below(4) as usize] = 1 << rng.below(64),
     }
 }
 
@@ -99,7 +119,7 @@ fn scramble(rng: &mut Rng) -> RawReceiver {
     let mut key = || RawKey {
         iv: rng.iv(),
         next: rng.word(),
-        marks: rng.word(),
+        marks: words(rng),
     };
     let (current, old) = (key(), key());
     RawReceiver {
@@ -108,6 +128,7 @@ fn scramble(rng: &mut Rng) -> RawReceiver {
             layout: rng.word() as u8,
             mac: rng.word() as u8,
             profile: rng.word() as u8,
+            width: rng.word() as u16,
             session: rng.word() as u32,
             limit: rng.word(),
         },

@@ -66,7 +66,7 @@ fn calm_call(rng: &mut Rng, state: &RawReceiver) -> ReceiverCall {
     let step = if rng.one_in(2) {
         rng.between(0, 2)
     } else {
-        rng.between(-66, 0)
+        rng.between(-2 - i64::from(state.setting.width), 0)
     };
     let low = next.wrapping_add_signed(step) as u16;
     let length = u16::from(state.setting.mac) + 2 + rng.below(8) as u16;

@@ -26,9 +26,10 @@ pub fn sound_record(rng: &mut Rng, state: &RawReceiver, slot: u8) -> Vec<u8> {
     } else {
         &state.current
     };
-    let low = near(rng, key.next) as u16;
-    let length = length(rng, state.setting.mac);
-    record(rng, &state.setting, low, length)
+    let setting = &state.setting;
+    let low = near(rng, key.next, setting.width) as u16;
+    let length = length(rng, setting.mac);
+    record(rng, setting, low, length)
 }
 
 /// A record, damaged about once in four times.

@@ -2,8 +2,8 @@
 
 use super::numbers::{edge, limit, small_step};
 use super::rng::Rng;
-use crate::layout::Record;
-use crate::raw::{RawKey, RawReceiver, RawSender};
+use crate::layout::{Record, Window};
+use crate::raw::{Marks, RawKey, RawReceiver, RawSender};
 use crate::setting::Setting;
 
 /// A setting that Open takes.
@@ -18,6 +18,7 @@ pub fn good_setting(rng: &mut Rng) -> Setting {
         layout: rng.below(2) as u8,
         mac: rng.pick(&Record::MACS),
         profile: rng.below(2) as u8,
+        width: rng.pick(&Window::WIDTHS),
         session,
         limit: limit(rng),
     }
@@ -39,41 +40,53 @@ pub fn good_receiver(rng: &mut Rng) -> RawReceiver {
     let setting = good_setting(rng);
     let held = rng.one_in(2);
     let old = if held {
-        good_key(rng, setting.limit)
+        good_key(rng, &setting)
     } else {
         RawKey::default()
     };
     RawReceiver {
         setting,
         count: count(rng).max(u32::from(held)),
-        current: good_key(rng, setting.limit),
+        current: good_key(rng, &setting),
         held,
         old,
     }
 }
 
-/// A receive key whose E and marks fit each other and the limit.
-pub fn good_key(rng: &mut Rng, limit: u64) -> RawKey {
-    let next = up_to(rng, limit);
+/// A receive key whose E and marks fit each other and the setting.
+pub fn good_key(rng: &mut Rng, setting: &Setting) -> RawKey {
+    let next = up_to(rng, setting.limit);
+    let known = next.min(u64::from(setting.width));
     RawKey {
         iv: rng.iv(),
         next,
-        marks: marks(rng, next),
+        marks: marks(rng, known),
     }
 }
 
-/// A window word for E: no bit below number 0, and bit 0 set if E > 0.
-fn marks(rng: &mut Rng, next: u64) -> u64 {
-    let word = match rng.below(6) {
+/// A window that knows so many numbers: no bit beyond them, and bit 0 set if
+/// there are any.
+fn marks(rng: &mut Rng, known: u64) -> Marks {
+    let style = rng.below(6);
+    let mut marks: Marks = std::array::from_fn(|_| word(rng, style));
+    marks[0] |= 1;
+    for (word, first) in marks.iter_mut().zip((0..).step_by(64)) {
+        let fits = known.saturating_sub(first);
+        *word &= if fits < 64 { (1 << fits) - 1 } else { u64::MAX };
+    }
+    marks
+}
+
+/// One word; all of a window are of one style, so that full windows come too.
+fn word(rng: &mut Rng, style: u64) -> u64 {
+    match style {
         0 => 0,
         1 => u64::MAX,
         2 => 1 << 63,
         3 => rng.word() & rng.word(),
         4 => rng.word() | rng.word(),
         _ => rng.word(),
-    };
-    let fits = if next < 64 { (1 << next) - 1 } else { u64::MAX };
-    (word | 1) & fits
+    }
 }
 
 /// A number from 0 to the limit itself.

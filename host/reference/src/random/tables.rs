@@ -3,7 +3,7 @@
 use super::bad::{any_receiver, any_sender};
 use super::rng::Rng;
 use super::states::{good_receiver, good_sender};
-use crate::layout::Record;
+use crate::layout::{Record, Window};
 use crate::raw::{RawRow, RawTable};
 use crate::setting::Setting;
 
@@ -46,17 +46,17 @@ fn used_row(rng: &mut Rng, session: u32) -> RawRow {
 /// Zeros but for one field, so that no call but Close can use the row.
 fn nearly_free(rng: &mut Rng) -> RawRow {
     let mut row = RawRow::default();
-    let byte = rng.below(12) as usize;
+    let (byte, word) = (rng.below(12) as usize, rng.below(4) as usize);
     match rng.below(14) {
         0 | 1 => set_one(rng, &mut row.receiver.setting),
         2 => row.receiver.count = 1,
         3 => row.receiver.current.iv[byte] = 1,
         4 => row.receiver.current.next = 1,
-        5 => row.receiver.current.marks = 1,
+        5 => row.receiver.current.marks[word] = 1,
         6 => row.receiver.held = true,
         7 => row.receiver.old.iv[byte] = 1,
         8 => row.receiver.old.next = 1,
-        9 => row.receiver.old.marks = 1,
+        9 => row.receiver.old.marks[word] = 1,
         10 => set_one(rng, &mut row.sender.setting),
         11 => row.sender.count = 1,
         12 => row.sender.next = 1,
@@ -67,11 +67,12 @@ fn nearly_free(rng: &mut Rng) -> RawRow {
 
 /// One field of a setting of zeros.
 fn set_one(rng: &mut Rng, setting: &mut Setting) {
-    match rng.below(5) {
+    match rng.below(6) {
         0 => setting.mode = 1,
         1 => setting.layout = 1,
         2 => setting.mac = rng.pick(&Record::MACS),
         3 => setting.profile = 1,
+        4 => setting.width = rng.pick(&Window::WIDTHS),
         _ => setting.limit = 1,
     }
 }

@@ -4,7 +4,7 @@
 pub mod toy;
 
 use reference::version::{ReceiverCalls, SenderCalls, Version};
-use reference::{Iv, RawKey, RawReceiver, RawSender, Setting};
+use reference::{Iv, Marks, RawKey, RawReceiver, RawSender, Setting};
 
 pub const SESSION: u32 = 0x1122_3344;
 pub const IV: Iv = [0, 1, 2, 3, 4, 5, 6, 7, 8, 9, 10, 11];
@@ -37,6 +37,9 @@ pub fn good_settings() -> Vec<Setting> {
             Setting { mac: 8, ..base },
             Setting { mac: 12, ..base },
             Setting { profile: 1, ..base },
+            Setting { width: 128, ..base },
+            Setting { width: 192, ..base },
+            Setting { width: 256, ..base },
         ]
     })
     .collect()
@@ -63,6 +66,10 @@ pub fn bad_settings() -> Vec<Setting> {
             profile: 255,
             ..good
         },
+        Setting { width: 0, ..good },
+        Setting { width: 63, ..good },
+        Setting { width: 65, ..good },
+        Setting { width: 320, ..good },
         Setting { limit: 0, ..good },
         Setting {
             limit: 0,
@@ -79,13 +86,18 @@ pub fn opened<V: Version>(setting: Setting) -> (V::Sender, V::Receiver) {
     (sender, receiver)
 }
 
-/// A key with E and a window word.
+/// A key with E and the lowest word of its window.
 pub fn key(next: u64, marks: u64) -> RawKey {
     RawKey {
         iv: IV,
         next,
-        marks,
+        marks: low_word(marks),
     }
+}
+
+/// A window with only its lowest word used.
+pub fn low_word(marks: u64) -> Marks {
+    [marks, 0, 0, 0]
 }
 
 /// A sender about to use this number.
