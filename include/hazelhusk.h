@@ -1,4 +1,4 @@
-/* Hazelhusk 1.4: SPDM secured records over MCTP, for C.
+/* Hazelhusk 1.5: SPDM secured records over MCTP, for C.
  *
  * Link target/staticlib/libhusk.a. It needs nothing else: no heap, no C library, no global state.
  *
@@ -42,12 +42,11 @@
 extern "C" {
 #endif
 
-/* It changes whenever a struct below does. */
-#define HAZELHUSK_VERSION 5
+/* It changes whenever a struct below does. In 6 every one with a setting or a window is larger. */
+#define HAZELHUSK_VERSION 6
 
 #define HAZELHUSK_HEADER_BYTES 8u  /* bytes of a record's header */
 #define HAZELHUSK_BENCH_HEADER_BYTES 6u  /* the same with HAZELHUSK_PROFILE_BENCH */
-#define HAZELHUSK_WINDOW_WIDTH 64u  /* numbers that a receive window remembers */
 #define HAZELHUSK_SLOT_CURRENT 0u  /* the slot of the current receive key */
 #define HAZELHUSK_SLOT_OLD 1u     /* the slot of the old one */
 #define HAZELHUSK_ROW_COUNT 16u   /* rows of a controller's table */
@@ -71,11 +70,18 @@ extern "C" {
 #define HAZELHUSK_PROFILE_BUS 0u    /* Session ID, the low 16 bits of the number, Length */
 #define HAZELHUSK_PROFILE_BENCH 1u  /* Session ID, Length */
 
+/* How many numbers below the next a receive window remembers is chosen at open: 64, 128, 192 or 256, as far
+ * as records may overtake each other. One that comes later than that is HAZELHUSK_OLD. Only the receiver's
+ * counts: a sender has it because a setting has, and ends that differ in nothing else understand each other. */
+#define HAZELHUSK_WINDOW_WIDTH 64u    /* the usual one, and the narrowest */
+#define HAZELHUSK_WINDOW_WIDEST 256u  /* the widest */
+
 /* The refusals. */
 enum {
     HAZELHUSK_OK = 0,
     HAZELHUSK_STATE = 1,    /* the state is none that the calls return */
-    HAZELHUSK_SETTING = 2,  /* mode, layout or profile above 1, mac none of 8, 12 and 16, or a limit of 0 */
+    HAZELHUSK_SETTING = 2,  /* mode, layout or profile above 1, mac none of 8, 12 and 16, width none of 64, 128,
+                               192 and 256, or a limit of 0 */
     HAZELHUSK_KEY = 3,      /* no such slot, or no old key */
     HAZELHUSK_SHORT = 4,    /* the record is shorter than its profile's header */
     HAZELHUSK_SESSION = 5,  /* another Session ID */
@@ -104,11 +110,14 @@ enum {
 /* ---- states and answers, as they lie in memory */
 
 /* A channel's setting, the same at both ends. Mode 0 authenticates, mode 1 encrypts too; `layout` is one
- * of HAZELHUSK_LAYOUT_..; a MAC has `mac` bytes; `profile` is one of HAZELHUSK_PROFILE_..; each key's
- * numbers are those below `limit`. See hazelhusk_setting_of. */
-typedef struct { uint8_t mode, layout, mac, profile; uint32_t session; uint64_t limit; } hazelhusk_setting;
+ * of HAZELHUSK_LAYOUT_..; a MAC has `mac` bytes; `profile` is one of HAZELHUSK_PROFILE_..; a window remembers
+ * `width` numbers; each key's numbers are those below `limit`. See hazelhusk_setting_of. */
+typedef struct { uint8_t mode, layout, mac, profile; uint16_t width; uint32_t session; uint64_t limit; } hazelhusk_setting;
 typedef struct { uint8_t bytes[12]; } hazelhusk_iv;
-typedef struct { uint64_t word; } hazelhusk_marks;
+
+/* What a window remembers: bit i % 64 of word i / 64 is set where the number `next` - 1 - i is marked. Bits at
+ * the setting's width and beyond are 0: there are four words at every width. */
+typedef struct { uint64_t words[4]; } hazelhusk_marks;
 typedef struct { uint64_t next; hazelhusk_marks marks; } hazelhusk_window;
 typedef struct { uint8_t iv[12]; hazelhusk_window window; } hazelhusk_key;
 
@@ -164,7 +173,7 @@ typedef struct { uint8_t answer; bool integrity; uint8_t kind; } hazelhusk_data;
 
 /* A controller's table of sixteen rows, each free or with one receiver and one sender of one Session ID.
  * All zeros is a table with every row free: there is no call that makes one. */
-typedef struct { uint64_t rows[16][20]; } hazelhusk_controller;
+typedef struct { uint64_t rows[16][26]; } hazelhusk_controller;
 
 typedef struct { uint8_t answer, row; } hazelhusk_opened;
 typedef struct { uint8_t answer; uint64_t place, length; } hazelhusk_taken;
@@ -209,11 +218,12 @@ uint8_t husk_table_change_receiver(hazelhusk_controller *table, uint8_t row, haz
 uint8_t husk_table_change_sender(hazelhusk_controller *table, uint8_t row, hazelhusk_iv iv);
 uint8_t husk_table_drop(hazelhusk_controller *table, uint8_t row);
 
-/* The usual setting: the layout is HAZELHUSK_LAYOUT_LITTLE, the MAC has HAZELHUSK_MAC_BYTES, and the profile
- * is HAZELHUSK_PROFILE_BUS. Where a board wants another, change that field of it. */
+/* The usual setting: the layout is HAZELHUSK_LAYOUT_LITTLE, the MAC has HAZELHUSK_MAC_BYTES, the profile is
+ * HAZELHUSK_PROFILE_BUS, and the window remembers HAZELHUSK_WINDOW_WIDTH numbers. Where a board wants another,
+ * change that field of it. */
 static inline hazelhusk_setting hazelhusk_setting_of(uint8_t mode, uint32_t session, uint64_t limit)
 {
-    hazelhusk_setting setting = { mode, HAZELHUSK_LAYOUT_LITTLE, HAZELHUSK_MAC_BYTES, HAZELHUSK_PROFILE_BUS, session, limit };
+    hazelhusk_setting setting = { mode, HAZELHUSK_LAYOUT_LITTLE, HAZELHUSK_MAC_BYTES, HAZELHUSK_PROFILE_BUS, HAZELHUSK_WINDOW_WIDTH, session, limit };
     return setting;
 }
 
@@ -261,7 +271,8 @@ static inline uint8_t hazelhusk_receiver_open(hazelhusk_receiver *receiver, haze
     return step.answer;
 }
 
-/* How many of the last numbers are missing under the slot's key; on the bench none ever is.
+/* How many of the last numbers, as many as the window remembers, are missing under the slot's key; on the bench
+ * none ever is.
  * HAZELHUSK_STATE, _KEY. */
 static inline uint8_t hazelhusk_gaps(const hazelhusk_receiver *receiver, uint8_t slot, uint32_t *gaps)
 {

@@ -1,7 +1,8 @@
 /* A small part of a bay: one board's records cross the bus under a toy cipher, one is delivered twice,
  * one is forged, and the key changes while a record of the old key is late. Then the same with a board of
- * the first series, whose MAC has 8 bytes, and last a board on the test bench's cable. Each line says what
- * the receiver answered; the program ends with 1 where an answer is not the one expected. */
+ * the first series, whose MAC has 8 bytes, a burst that overtakes a record, and last a board on the test
+ * bench's cable. Each line says what the receiver answered; the program ends with 1 where an answer is not the
+ * one expected. */
 #include <stdio.h>
 
 #include "hazelhusk.h"
@@ -82,6 +83,28 @@ static int story(uint8_t mac)
     return failures != 0;
 }
 
+/* 150 others overtake a record. A window of this width takes it, or finds it old. */
+static int burst(uint16_t width, uint8_t wanted)
+{
+    static const uint8_t iv[12] = { 10, 11, 12 };
+    hazelhusk_setting setting = hazelhusk_setting_of(0, 0x99aabbcc, UINT64_MAX);
+    hazelhusk_sender sender;
+    hazelhusk_receiver receiver;
+    hazelhusk_part app;
+    uint8_t late[64], record[64];
+
+    setting.width = width;
+    if (hazelhusk_sender_open(&sender, setting, iv) || hazelhusk_receiver_open(&receiver, setting, iv)) return 1;
+    size_t n = send_one(&sender, 5, 60, late);
+    for (int i = 0; i < 150; i++) {
+        send_one(&sender, 5, 61, record);
+        if (receive_one(&receiver, 5, HAZELHUSK_SLOT_CURRENT, record, n, &app)) return 1;
+    }
+    printf("with a window of %u numbers\n", width);
+    expect("a record that 150 others overtook", receive_one(&receiver, 5, HAZELHUSK_SLOT_CURRENT, late, n, &app), wanted, app);
+    return failures != 0;
+}
+
 /* On the bench's cable a record says no number: each has the next one, so after a lost one none passes. */
 static int bench(void)
 {
@@ -109,5 +132,6 @@ static int bench(void)
 
 int main(void)
 {
-    return story(HAZELHUSK_MAC_BYTES) || story(8) || bench();
+    return story(HAZELHUSK_MAC_BYTES) || story(8) || burst(HAZELHUSK_WINDOW_WIDTH, HAZELHUSK_OLD)
+        || burst(HAZELHUSK_WINDOW_WIDEST, HAZELHUSK_OK) || bench();
 }

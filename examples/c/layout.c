@@ -5,26 +5,26 @@
 #define SIZE(type, size) _Static_assert(sizeof(hazelhusk_##type) == (size), #type)
 #define AT(type, field, place) _Static_assert(offsetof(hazelhusk_##type, field) == (place), #type "." #field)
 
-SIZE(setting, 16); AT(setting, mode, 0); AT(setting, layout, 1); AT(setting, mac, 2);
-AT(setting, profile, 3); AT(setting, session, 4); AT(setting, limit, 8);
+SIZE(setting, 24); AT(setting, mode, 0); AT(setting, layout, 1); AT(setting, mac, 2); AT(setting, profile, 3);
+AT(setting, width, 4); AT(setting, session, 8); AT(setting, limit, 16);
 SIZE(iv, 12);
-SIZE(marks, 8);
-SIZE(window, 16); AT(window, next, 0); AT(window, marks, 8);
-SIZE(key, 32); AT(key, iv, 0); AT(key, window, 16);
-SIZE(sender, 48); AT(sender, setting, 0); AT(sender, count, 16); AT(sender, next, 24); AT(sender, iv, 32);
-SIZE(sender_step, 56); AT(sender_step, answer, 0); AT(sender_step, next, 8);
-SIZE(built, 104); AT(built, answer, 0); AT(built, number, 8); AT(built, nonce, 16); AT(built, assoc, 32);
+SIZE(marks, 32); AT(marks, words, 0); AT(marks, words[3], 24);
+SIZE(window, 40); AT(window, next, 0); AT(window, marks, 8);
+SIZE(key, 56); AT(key, iv, 0); AT(key, window, 16);
+SIZE(sender, 56); AT(sender, setting, 0); AT(sender, count, 24); AT(sender, next, 32); AT(sender, iv, 40);
+SIZE(sender_step, 64); AT(sender_step, answer, 0); AT(sender_step, next, 8);
+SIZE(built, 112); AT(built, answer, 0); AT(built, number, 8); AT(built, nonce, 16); AT(built, assoc, 32);
 AT(built, text, 40); AT(built, total, 48); AT(built, next, 56);
-SIZE(receiver, 96); AT(receiver, setting, 0); AT(receiver, count, 16); AT(receiver, current, 24);
-AT(receiver, held, 56); AT(receiver, old, 64);
-SIZE(receiver_step, 104); AT(receiver_step, answer, 0); AT(receiver_step, next, 8);
+SIZE(receiver, 152); AT(receiver, setting, 0); AT(receiver, count, 24); AT(receiver, current, 32);
+AT(receiver, held, 88); AT(receiver, old, 96);
+SIZE(receiver_step, 160); AT(receiver_step, answer, 0); AT(receiver_step, next, 8);
 SIZE(counted, 8); AT(counted, answer, 0); AT(counted, gaps, 4);
 SIZE(offered, 48); AT(offered, answer, 0); AT(offered, count, 4); AT(offered, number, 8); AT(offered, nonce, 16);
 AT(offered, assoc, 32); AT(offered, text, 40);
-SIZE(settled, 120); AT(settled, answer, 0); AT(settled, place, 8); AT(settled, length, 16); AT(settled, next, 24);
+SIZE(settled, 176); AT(settled, answer, 0); AT(settled, place, 8); AT(settled, length, 16); AT(settled, next, 24);
 SIZE(wrote, 16); AT(wrote, answer, 0); AT(wrote, length, 8);
 SIZE(data, 3); AT(data, answer, 0); AT(data, integrity, 1); AT(data, kind, 2);
-SIZE(controller, 2560); AT(controller, rows, 0); AT(controller, rows[1], 160); AT(controller, rows[15][19], 2552);
+SIZE(controller, 3328); AT(controller, rows, 0); AT(controller, rows[1], 208); AT(controller, rows[15][25], 3320);
 SIZE(opened, 2); AT(opened, answer, 0); AT(opened, row, 1);
 SIZE(taken, 24); AT(taken, answer, 0); AT(taken, place, 8); AT(taken, length, 16);
 SIZE(sent, 56); AT(sent, answer, 0); AT(sent, number, 8); AT(sent, nonce, 16); AT(sent, assoc, 32);
@@ -47,6 +47,7 @@ static int table(void)
     setting.layout = HAZELHUSK_LAYOUT_BIG;
     setting.mac = 12;
     setting.profile = HAZELHUSK_PROFILE_BENCH;
+    setting.width = 192;
     if (hazelhusk_controller_open(&controller, setting, out, in, &row) || row != 1) return 2;
     if (hazelhusk_controller_open(&controller, setting, out, in, &row) != HAZELHUSK_TWICE || row != 0) return 3;
     if (hazelhusk_controller_build(&controller, 1, plain, 1, NULL, 0, record, sizeof record, &sent)) return 4;
@@ -62,8 +63,9 @@ static int table(void)
     if (hazelhusk_controller_gaps(&controller, 1, HAZELHUSK_SLOT_OLD, &gaps) || gaps != 0) return 13;
     const uint64_t first = 0x0807060504030201, last = 0x0c0b0a09, other = 0x1c1b1a1918171615, tail = 0x201f1e1d;
     const uint64_t limit = setting.limit;
-    const uint64_t words[20] = { 0x10c0101, 0x82838486, limit, 1, first, last, 0, 0, 1, other, tail, 1, 1, 0x10c0101, 0x82838486, limit, 1, 0, other, tail };
-    const uint64_t fresh[20] = { 0x100001, 0x82838485, limit, 0, first, last, 0, 0, 0, 0, 0, 0, 0, 0x100001, 0x82838485, limit, 0, 0, other, tail };
+    const uint64_t kind = 0xc0010c0101, usual = 0x4000100001;
+    const uint64_t words[26] = { kind, 0x82838486, limit, 1, first, last, 0, 0, 0, 0, 0, 1, other, tail, 1, 1, 0, 0, 0, kind, 0x82838486, limit, 1, 0, other, tail };
+    const uint64_t fresh[26] = { usual, 0x82838485, limit, 0, first, last, 0, 0, 0, 0, 0, 0, 0, 0, 0, 0, 0, 0, 0, usual, 0x82838485, limit, 0, 0, other, tail };
     if (memcmp(controller.rows[1], words, sizeof words) || memcmp(controller.rows[0], fresh, sizeof fresh)) return 14;
     if (hazelhusk_controller_drop(&controller, 1) || hazelhusk_controller_drop(&controller, 1) != HAZELHUSK_KEY) return 15;
     if (hazelhusk_controller_close(&controller, 0) || hazelhusk_controller_close(&controller, 0) != HAZELHUSK_UNKNOWN) return 16;
@@ -73,7 +75,13 @@ static int table(void)
 
 static bool same_setting(hazelhusk_setting a, hazelhusk_setting b)
 {
-    return a.mode == b.mode && a.layout == b.layout && a.mac == b.mac && a.profile == b.profile && a.session == b.session && a.limit == b.limit;
+    return a.mode == b.mode && a.layout == b.layout && a.mac == b.mac && a.profile == b.profile
+        && a.width == b.width && a.session == b.session && a.limit == b.limit;
+}
+
+static bool same_window(hazelhusk_window a, hazelhusk_window b)
+{
+    return a.next == b.next && !memcmp(a.marks.words, b.marks.words, sizeof a.marks.words);
 }
 
 /* A state that is refused comes back as it was: every field crosses the boundary at its place. */
@@ -85,12 +93,12 @@ int main(void)
     memset(&receiver, 0, sizeof receiver);
     memset(&sender, 0, sizeof sender);
     uint8_t byte = 0;
-    receiver.setting = (hazelhusk_setting){ 0x81, 0x92, 0xa3, 0xb4, 0x82838485, 0x868788898a8b8c8d };
+    receiver.setting = (hazelhusk_setting){ 0x81, 0x92, 0xa3, 0xb4, 0xc5d6, 0x82838485, 0x868788898a8b8c8d };
     receiver.count = 0x8e8f9091;
     receiver.held = true;
     for (int i = 0; i < 12; i++) { receiver.current.iv[i] = ++byte; receiver.old.iv[i] = ++byte; sender.iv[i] = ++byte; }
-    receiver.current.window = (hazelhusk_window){ 0xa1a2a3a4a5a6a7a8, { 0xb1b2b3b4b5b6b7b8 } };
-    receiver.old.window = (hazelhusk_window){ 0xc1c2c3c4c5c6c7c8, { 0xd1d2d3d4d5d6d7d8 } };
+    receiver.current.window = (hazelhusk_window){ 0xa1a2a3a4a5a6a7a8, { { 0xb1b2b3b4b5b6b7b8, 0xb9babbbcbdbebfb0, 3, 4 } } };
+    receiver.old.window = (hazelhusk_window){ 0xc1c2c3c4c5c6c7c8, { { 0xd1d2d3d4d5d6d7d8, 0xd9dadbdcdddedfd0, 7, 8 } } };
     sender.setting = receiver.setting;
     sender.count = 0xe1e2e3e4;
     sender.next = 0xf1f2f3f4f5f6f7f8;
@@ -99,9 +107,7 @@ int main(void)
     if (hazelhusk_drop(&receiver) != HAZELHUSK_STATE || hazelhusk_sender_change_key(&sender, had.iv) != HAZELHUSK_STATE) return 1;
     return !same_setting(receiver.setting, was.setting) || !same_setting(sender.setting, had.setting)
         || receiver.count != was.count || receiver.held != was.held
-        || memcmp(receiver.current.iv, was.current.iv, 12) || receiver.current.window.next != was.current.window.next
-        || receiver.current.window.marks.word != was.current.window.marks.word
-        || memcmp(receiver.old.iv, was.old.iv, 12) || receiver.old.window.next != was.old.window.next
-        || receiver.old.window.marks.word != was.old.window.marks.word || sender.count != had.count
-        || sender.next != had.next || memcmp(sender.iv, had.iv, 12);
+        || memcmp(receiver.current.iv, was.current.iv, 12) || !same_window(receiver.current.window, was.current.window)
+        || memcmp(receiver.old.iv, was.old.iv, 12) || !same_window(receiver.old.window, was.old.window)
+        || sender.count != had.count || sender.next != had.next || memcmp(sender.iv, had.iv, 12);
 }
