@@ -18,6 +18,8 @@ pub struct Setting {
     pub mac: u8,
     /// What a header holds: [`crate::PROFILE_BUS`] or [`crate::PROFILE_BENCH`].
     pub profile: u8,
+    /// How many numbers a receive window remembers: one of [`crate::WIDTHS`].
+    pub width: u16,
     /// The Session ID.
     pub session: u32,
     /// Each key's numbers are those below it.
@@ -30,10 +32,12 @@ pub struct Iv {
     pub bytes: [u8; 12],
 }
 
+/// Bit i % 64 of word i / 64 is set where the number `next` - 1 - i is marked; those at the setting's width and
+/// beyond are 0.
 #[repr(C)]
 #[derive(Clone, Copy, Debug, Default, PartialEq, Eq)]
 pub struct Marks {
-    pub word: u64,
+    pub words: [u64; 4],
 }
 
 #[repr(C)]
@@ -141,7 +145,7 @@ pub struct Data {
 #[repr(C)]
 #[derive(Clone, Copy, Debug, Default, PartialEq, Eq)]
 pub struct Table {
-    pub rows: [[u64; 20]; 16],
+    pub rows: [[u64; 26]; 16],
 }
 
 #[repr(C)]

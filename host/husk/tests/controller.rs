@@ -1,6 +1,6 @@
 //! The controller's table through the safe face.
 use husk::{raw, Controller, Refusal, Sender, Setting, CURRENT, LAYOUT_BIG, LAYOUT_LITTLE, MACS, OLD};
-use husk::{PROFILE_BENCH, PROFILE_BUS};
+use husk::{PROFILE_BENCH, PROFILE_BUS, WIDTH, WIDTHS};
 
 fn setting(mode: u8, session: u32) -> Setting {
     Setting::new(mode, session, u64::MAX)
@@ -78,10 +78,10 @@ fn each_row_has_its_own_mac_length() {
         assert_eq!((built.text, built.total, rec.len()), (11, total, total));
         assert_eq!(controller.offer(&rec, CURRENT).unwrap().text, 11);
         assert_eq!(controller.settle(&rec, CURRENT, 0, 0, true, &rec[8..11]), Ok(&b"a"[..]));
-        // The mode, the layout and the MAC's length share the first word of each end.
-        let kind = u64::from(mac) << 16 | 1;
+        // All of a setting but Session ID and limit share the first word of each end.
+        let kind = u64::from(WIDTH) << 32 | u64::from(mac) << 16 | 1;
         let words = controller.state().rows[usize::from(row)];
-        assert_eq!((words[0], words[13]), (kind, kind));
+        assert_eq!((words[0], words[19]), (kind, kind));
     }
 }
 
@@ -99,8 +99,8 @@ fn each_row_has_its_own_profile() {
             assert_eq!(controller.settle(&rec, CURRENT, 0, number, true, b""), Ok(&b"a"[..]));
         }
         let words = controller.state().rows[usize::from(row)];
-        let kind = u64::from(profile) << 24 | 16 << 16;
-        assert_eq!((words[0], words[13]), (kind, kind));
+        let kind = u64::from(WIDTH) << 32 | u64::from(profile) << 24 | 16 << 16;
+        assert_eq!((words[0], words[19]), (kind, kind));
     }
     // Six bytes are enough for the table, and for the row on the bench.
     for (session, six, seven) in [
@@ -111,6 +111,26 @@ fn each_row_has_its_own_profile() {
         let start = [session, 0, 0, 0, 0, 0, 0];
         let offers = [5, 6, 7].map(|length| controller.offer(&start[..length], CURRENT));
         assert_eq!(offers, [Err(Refusal::Short), Err(six), Err(seven)]);
+    }
+}
+
+#[test]
+fn each_row_has_its_own_width() {
+    let mut controller = Controller::new();
+    for width in WIDTHS {
+        let setting = Setting { width, ..setting(0, width.into()) };
+        let mut board = Sender::open(setting, [1; 12]).unwrap();
+        let row = controller.open(setting, [1; 12], [2; 12]).unwrap();
+        let records: Vec<_> = (0..=width).map(|_| record(&mut board, b"a")).collect();
+        for (number, rec) in (0..).zip(&records).skip(1) {
+            assert_eq!(controller.settle(rec, CURRENT, 0, number, true, b""), Ok(&b"a"[..]));
+        }
+        assert_eq!(controller.offer(&records[0], CURRENT), Err(Refusal::Old));
+        // All marks of the window are there, and none beyond it.
+        let words = controller.state().rows[usize::from(row)];
+        let full = WIDTHS.map(|all| if all <= width { u64::MAX } else { 0 });
+        assert_eq!((words[6], &words[7..11]), (u64::from(width) + 1, &full[..]));
+        assert_eq!((words[0] >> 32, words[19] >> 32), (width.into(), width.into()));
     }
 }
 
@@ -128,6 +148,8 @@ fn rows_are_taken_and_freed_lowest_first() {
     assert_eq!(controller.open(odd, [0; 12], [0; 12]), Err(Refusal::Setting));
     let none = Setting { profile: 2, ..setting(1, 99) };
     assert_eq!(controller.open(none, [0; 12], [0; 12]), Err(Refusal::Setting));
+    let between = Setting { width: 96, ..setting(1, 99) };
+    assert_eq!(controller.open(between, [0; 12], [0; 12]), Err(Refusal::Setting));
     assert_eq!(controller.open(setting(1, 15), [0; 12], [0; 12]), Err(Refusal::Twice));
     assert_eq!(controller.open(setting(1, 99), [0; 12], [0; 12]), Err(Refusal::Rows));
     assert_eq!(controller.close(16), Err(Refusal::Unknown));

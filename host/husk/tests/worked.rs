@@ -1,6 +1,7 @@
-//! Page 01's worked cases, both layouts of nonces, each MAC length and both profiles, through the safe face.
+//! Page 01's worked cases, both layouts of nonces, each MAC length, both profiles and each width of the window,
+//! through the safe face.
 use husk::{raw, Receiver, Refusal, Sender, Setting};
-use husk::{BENCH_HEADER, HEADER, LAYOUT_BIG, LAYOUT_LITTLE, MAC, MACS, PROFILE_BENCH, PROFILE_BUS};
+use husk::{BENCH_HEADER, HEADER, LAYOUT_BIG, LAYOUT_LITTLE, MAC, MACS, PROFILE_BENCH, PROFILE_BUS, WIDTH, WIDTHS};
 
 fn setting(mode: u8) -> Setting {
     Setting::new(mode, 0x1122_3344, u64::MAX)
@@ -95,9 +96,38 @@ fn a_refused_open_is_an_error_and_zeros_are_state() {
     for profile in 2..=255 {
         refused(Setting { profile, ..setting(0) });
     }
+    for width in (0..=u16::MAX).filter(|width| !WIDTHS.contains(width)) {
+        refused(Setting { width, ..setting(0) });
+    }
     let zeros = Receiver::from_state(raw::Receiver::default());
     assert_eq!(zeros.offer(&[], 9), Err(Refusal::State));
     assert_eq!(Sender::from_state(raw::Sender::default()).change_key([1; 12]), Err(Refusal::State));
+}
+
+#[test]
+fn the_usual_window_is_the_narrowest() {
+    assert_eq!((setting(0).width, WIDTHS.iter().min()), (WIDTH, Some(&WIDTH)));
+}
+
+/// Takes the record of this number, whose MAC nobody checks here.
+fn take(receiver: &mut Receiver, number: u64) -> Result<(), Refusal> {
+    let sender = raw::Sender { setting: receiver.state().setting, next: number, ..Default::default() };
+    let mut rec = [0; HEADER + MAC];
+    Sender::from_state(sender).build(&[], &[], &mut rec).unwrap();
+    let offered = receiver.offer(&rec, husk::CURRENT)?;
+    receiver.settle(&rec, husk::CURRENT, offered.count, offered.number, true, &[]).map(|_| ())
+}
+
+#[test]
+fn a_window_takes_what_is_late_by_its_width() {
+    for width in WIDTHS {
+        let mut receiver = Receiver::open(Setting { width, ..setting(0) }, [0; 12]).unwrap();
+        take(&mut receiver, 999).unwrap();
+        let last = 1_000 - u64::from(width);
+        assert_eq!(take(&mut receiver, last - 1), Err(Refusal::Old));
+        assert_eq!((take(&mut receiver, last), take(&mut receiver, last)), (Ok(()), Err(Refusal::Repeat)));
+        assert_eq!(receiver.gaps(husk::CURRENT), Ok(u32::from(width) - 2));
+    }
 }
 
 #[test]
