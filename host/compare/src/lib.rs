@@ -19,21 +19,23 @@ pub struct HuskSender(raw::Sender);
 pub struct HuskReceiver(raw::Receiver);
 
 /// The reference's setting, for the proved version.
-pub fn setting_in(s: Setting) -> raw::Setting {
-    raw::Setting { mode: s.mode, layout: s.layout, mac: s.mac, profile: s.profile, session: s.session, limit: s.limit }
+pub fn setting_in(setting: Setting) -> raw::Setting {
+    let Setting { mode, layout, mac, profile, width, session, limit } = setting;
+    raw::Setting { mode, layout, mac, profile, width, session, limit }
 }
 
 /// The proved version's setting, for the reference.
-pub fn setting_out(s: raw::Setting) -> Setting {
-    Setting { mode: s.mode, layout: s.layout, mac: s.mac, profile: s.profile, session: s.session, limit: s.limit }
+pub fn setting_out(setting: raw::Setting) -> Setting {
+    let raw::Setting { mode, layout, mac, profile, width, session, limit } = setting;
+    Setting { mode, layout, mac, profile, width, session, limit }
 }
 
 fn key_in(k: RawKey) -> raw::Key {
-    raw::Key { iv: k.iv, window: raw::Window { next: k.next, marks: raw::Marks { word: k.marks } } }
+    raw::Key { iv: k.iv, window: raw::Window { next: k.next, marks: raw::Marks { words: k.marks } } }
 }
 
 fn key_out(k: raw::Key) -> RawKey {
-    RawKey { iv: k.iv, next: k.window.next, marks: k.window.marks.word }
+    RawKey { iv: k.iv, next: k.window.next, marks: k.window.marks.words }
 }
 
 impl SenderCalls for HuskSender {

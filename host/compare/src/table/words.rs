@@ -1,14 +1,24 @@
 //! A table's rows as the words that they lie in, in the order of crates/rows/specs/Ends.antt: one word for
-//! each number, but mode, layout, the MAC's length and the profile share one.
+//! each number, but mode, layout, the MAC's length, the profile and the window's width share one.
 use husk::raw;
 use reference::random::Rng;
 use reference::{Iv, RawKey, RawReceiver, RawRow, RawSender, RawTable, Setting};
 
 /// Where the sender's words begin.
-const SENDER: usize = 13;
+const SENDER: usize = 19;
+
+/// The words of a row.
+type Words = [u64; 26];
 
 /// How many bits of each word are its number's; those above are read by no call.
-const BITS: [u32; 20] = [32, 32, 64, 32, 64, 32, 64, 64, 1, 64, 32, 64, 64, 32, 32, 64, 32, 64, 64, 32];
+#[rustfmt::skip]
+const BITS: [u32; 26] = [
+    48, 32, 64, 32,
+    64, 32, 64, 64, 64, 64, 64,
+    1,
+    64, 32, 64, 64, 64, 64, 64,
+    48, 32, 64, 32, 64, 64, 32,
+];
 
 fn iv_words(iv: Iv) -> [u64; 2] {
     let mut halves = [[0; 8]; 2];
@@ -25,59 +35,45 @@ fn iv_of(words: &[u64]) -> Iv {
 }
 
 fn setting_words(s: Setting) -> [u64; 3] {
-    let kind = u32::from_le_bytes([s.mode, s.layout, s.mac, s.profile]);
-    [kind.into(), s.session.into(), s.limit]
+    let [low, high] = s.width.to_le_bytes();
+    let kind = u64::from_le_bytes([s.mode, s.layout, s.mac, s.profile, low, high, 0, 0]);
+    [kind, s.session.into(), s.limit]
 }
 
 fn setting_of(words: &[u64]) -> Setting {
-    let [mode, layout, mac, profile, ..] = words[0].to_le_bytes();
-    Setting { mode, layout, mac, profile, session: words[1] as u32, limit: words[2] }
+    let [mode, layout, mac, profile, low, high, ..] = words[0].to_le_bytes();
+    let width = u16::from_le_bytes([low, high]);
+    Setting { mode, layout, mac, profile, width, session: words[1] as u32, limit: words[2] }
+}
+
+fn key_words(key: &RawKey) -> [u64; 7] {
+    let [first, last] = iv_words(key.iv);
+    let [a, b, c, d] = key.marks;
+    [first, last, key.next, a, b, c, d]
 }
 
 fn key_of(words: &[u64]) -> RawKey {
-    RawKey { iv: iv_of(words), next: words[2], marks: words[3] }
+    RawKey { iv: iv_of(words), next: words[2], marks: [words[3], words[4], words[5], words[6]] }
 }
 
-fn row_words(row: &RawRow) -> [u64; 20] {
+fn row_words(row: &RawRow) -> Words {
     let (r, s) = (&row.receiver, &row.sender);
-    let [kind, session, limit] = setting_words(r.setting);
-    let [send_kind, send_session, send_limit] = setting_words(s.setting);
-    let [first, last] = iv_words(r.current.iv);
-    let [old_first, old_last] = iv_words(r.old.iv);
-    let [send_first, send_last] = iv_words(s.iv);
-    [
-        kind,
-        session,
-        limit,
-        r.count.into(),
-        first,
-        last,
-        r.current.next,
-        r.current.marks,
-        r.held.into(),
-        old_first,
-        old_last,
-        r.old.next,
-        r.old.marks,
-        send_kind,
-        send_session,
-        send_limit,
-        s.count.into(),
-        s.next,
-        send_first,
-        send_last,
-    ]
+    let receiver = [&setting_words(r.setting)[..], &[r.count.into()], &key_words(&r.current)];
+    let old = [&[r.held.into()][..], &key_words(&r.old)];
+    let sender = [&setting_words(s.setting)[..], &[s.count.into(), s.next], &iv_words(s.iv)];
+    let words = [receiver.concat(), old.concat(), sender.concat()].concat();
+    words.try_into().expect("as many words as a row has")
 }
 
-fn row_of(words: &[u64; 20]) -> RawRow {
+fn row_of(words: &Words) -> RawRow {
     let (receiver, sender) = words.split_at(SENDER);
     RawRow {
         receiver: RawReceiver {
             setting: setting_of(receiver),
             count: receiver[3] as u32,
             current: key_of(&receiver[4..]),
-            held: receiver[8] & 1 == 1,
-            old: key_of(&receiver[9..]),
+            held: receiver[11] & 1 == 1,
+            old: key_of(&receiver[12..]),
         },
         sender: RawSender {
             setting: setting_of(sender),
