@@ -2,15 +2,17 @@
 //! 2 and on; one that is lost stops all behind it, and one offer is settled once. Between ends of two
 //! profiles nothing is promised.
 mod channel;
+mod mail;
 mod sealing;
 
 use channel::Channel;
 use cipher::Suite;
 use compare::Husk;
 use husk::{CURRENT, MACS, OLD, PROFILE_BENCH, PROFILE_BUS};
+use mail::{deliver, sent};
 use reference::version::{Memory, ReceiverCalls, SenderCalls, Version};
 use reference::{Refusal, Setting};
-use sealing::{offer, receive, send, send_data, suites, Sent};
+use sealing::{offer, receive, send_data, suites, Sent};
 
 /// A mode's setting on the bench.
 fn bench(mode: u8) -> Setting {
@@ -34,28 +36,11 @@ fn in_order_every_record_is_handed_out() {
     }
 }
 
-/// Sends so many records.
-fn sent<V: Version>(channel: &mut Channel<V>, count: usize) -> Vec<Sent> {
-    (0..count).map(|_| send(&mut channel.sender, &channel.keys, &mut channel.rng).unwrap()).collect()
-}
-
-/// Delivers a record in a slot and answers what came of it. The gap counts stay 0.
-fn deliver<V: Version>(channel: &mut Channel<V>, record: &Sent, slot: u8) -> u8 {
-    let before = channel.receiver.raw();
-    let (answer, count, number, data) = receive::<V>(&mut channel.receiver, &channel.keys, &record.bytes, slot);
-    if answer == 0 {
-        assert_eq!((count, number, &data), (record.count, record.number, &record.app));
-    } else {
-        assert_eq!(channel.receiver.raw(), before, "nothing is marked");
-    }
-    assert_eq!((channel.receiver.gaps(CURRENT), channel.receiver.gaps(OLD).1), ((0, 0), 0));
-    answer
-}
-
-/// Delivers records one after the other, which all end so.
+/// Delivers records one after the other, which all end so. The gap counts stay 0.
 fn all_end<V: Version>(channel: &mut Channel<V>, records: &[Sent], slot: u8, answer: u8) {
     for record in records {
         assert_eq!(deliver(channel, record, slot), answer);
+        assert_eq!((channel.receiver.gaps(CURRENT), channel.receiver.gaps(OLD).1), ((0, 0), 0));
     }
 }
 
