@@ -1,7 +1,7 @@
 //! Real cipher text: what either version builds and the cipher seals, both read back alike, in both modes,
-//! layouts and profiles, with each MAC length and with both ciphers, over losses, repeats, damage, key
-//! changes with late records, and drops. Whatever is handed out was sent, under its key and number, and is
-//! handed out once.
+//! layouts and profiles, with each MAC length, each width of the window and both ciphers, over losses, repeats,
+//! damage, key changes with late records, and drops. Whatever is handed out was sent, under its key and number,
+//! and is handed out once.
 mod sealing;
 
 use cipher::Suite;
@@ -17,10 +17,11 @@ fn awaited<'a>(mail: &'a [Sent], receiver: &RawReceiver) -> Option<&'a Sent> {
     mail.iter().find(|record| (record.count, record.number) == (receiver.count, receiver.current.next))
 }
 
-/// One of the last records that were sent, damaged one time in five. On the bench it is mostly the next, or
-/// few would be handed out.
+/// One of the last records that were sent, some of which lie behind the window, damaged one time in five. On the
+/// bench it is mostly the next, or few would be handed out.
 fn arrived(mail: &[Sent], receiver: &RawReceiver, rng: &mut Rng) -> Sent {
-    let late = &mail[mail.len() - 1 - rng.below(mail.len().min(90) as u64) as usize];
+    let last = mail.len().min(usize::from(receiver.setting.width) + 26);
+    let late = &mail[mail.len() - 1 - rng.below(last as u64) as usize];
     let in_order = receiver.setting.profile == husk::PROFILE_BENCH && !rng.one_in(4);
     let next = awaited(mail, receiver).filter(|_| in_order);
     let mut record = next.unwrap_or(late).clone();
@@ -71,24 +72,24 @@ fn run<S: Version>(suite: Suite, setting: Setting, seed: u64) -> usize {
     handed.len()
 }
 
-/// Both modes, in both layouts, with each MAC length, in this profile.
-fn settings(profile: u8) -> impl Iterator<Item = Setting> {
-    let modes = [0, 1].map(|mode| Setting { profile, ..Setting::new(mode, 0, 1 << 20) }).into_iter();
+/// Both modes, in both layouts, with each MAC length, in this profile and with a window of this width.
+fn settings(profile: u8, width: u16) -> impl Iterator<Item = Setting> {
+    let modes = [0, 1].map(|mode| Setting { profile, width, ..Setting::new(mode, 0, 1 << 20) }).into_iter();
     let laid = modes.flat_map(|setting| [setting, Setting { layout: 1, ..setting }]);
     laid.flat_map(|setting| husk::MACS.map(|mac| Setting { mac, ..setting }))
 }
 
 fn read_back(profile: u8) {
     let mut handed = 0;
-    for seed in 0..6 {
-        for setting in settings(profile) {
+    for (seed, width) in (0..).zip(husk::WIDTHS.into_iter().cycle().take(8)) {
+        for setting in settings(profile, width) {
             for suite in suites(setting.mac) {
                 handed += run::<Husk>(suite, setting, seed);
                 handed += run::<Memory>(suite, setting, seed);
             }
         }
     }
-    assert!(handed > 8_000, "only {} records were handed out", handed);
+    assert!(handed > 10_000, "only {} records were handed out", handed);
 }
 
 #[test]
