@@ -43,6 +43,14 @@ fn reading_beside() {
     race("offer+settle 64B vs 65000B", FEW, || receive::ours(&short), || receive::ours(&long));
 }
 
+/// Reading with the widest window, against the usual one and against the quick reference.
+fn reading_wide() {
+    let set = Set::new(1, 64, &in_order(RECORDS));
+    let name = "offer+settle 64B in order, width 256";
+    race(&format!("{name} / width 64"), RECORDS, || receive::wide(&set, 256), || receive::ours(&set));
+    race(&format!("{name} / Rust"), RECORDS, || receive::wide(&set, 256), || receive::fast_wide(&set, 256));
+}
+
 /// Reading in a full table, against one channel and against the quick reference.
 fn reading_table() {
     let (set, one) = (Set::in_turn(1, 64, RECORDS), Set::new(1, 64, &in_order(RECORDS)));
@@ -83,6 +91,7 @@ fn main() {
     println!("{:<54} {:>9} {:>9} {:>7}", "name", "ours-ns", "peer-ns", "ratio");
     reading();
     reading_beside();
+    reading_wide();
     reading_table();
     building();
     replay();

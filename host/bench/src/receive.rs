@@ -1,13 +1,18 @@
 //! Offer and settle of a whole set, from a new channel; the cipher always says yes.
 use crate::records::{setting, Set, IV};
 use compare::setting_out;
-use husk::raw;
+use husk::{raw, Setting, WIDTH};
 use reference::fast;
 use std::hint::black_box;
 
-/// The proved version, by value. Answers how many records were taken.
+/// The proved version with a window of the usual width. Answers how many records were taken.
 pub fn ours(set: &Set) -> usize {
-    let mut state = raw::Receiver::open(setting(set.mode), IV).next;
+    wide(set, WIDTH)
+}
+
+/// The proved version, by value, with a window of this width.
+pub fn wide(set: &Set, width: u16) -> usize {
+    let mut state = raw::Receiver::open(Setting { width, ..setting(set.mode) }, IV).next;
     let mut taken = 0;
     for rec in set.records() {
         let rec = black_box(rec);
@@ -26,9 +31,14 @@ pub fn ours(set: &Set) -> usize {
     taken
 }
 
-/// The quick reference, with its state changed in place. The compiler may inline it.
+/// The quick reference with a window of the usual width.
 pub fn fast(set: &Set) -> usize {
-    let (_, mut state) = fast::Receiver::open(setting_out(setting(set.mode)), IV);
+    fast_wide(set, WIDTH)
+}
+
+/// The quick reference, with its state changed in place. The compiler may inline it.
+pub fn fast_wide(set: &Set, width: u16) -> usize {
+    let (_, mut state) = fast::Receiver::open(setting_out(Setting { width, ..setting(set.mode) }), IV);
     let mut taken = 0;
     for rec in set.records() {
         let rec = black_box(rec);
