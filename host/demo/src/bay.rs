@@ -58,6 +58,7 @@ impl Bay {
         let setting = Setting {
             layout: plan.layout,
             mac: plan.mac,
+            width: plan.width,
             ..Setting::new(plan.mode, session, u64::MAX)
         };
         let secret = Secret::agree(&mut self.rng);

@@ -134,6 +134,11 @@ impl Element {
         self.setting.mac
     }
 
+    /// How many numbers its window remembers.
+    pub fn width(&self) -> u16 {
+        self.setting.width
+    }
+
     /// Its row in the controller's table.
     pub fn row(&self) -> u8 {
         self.row

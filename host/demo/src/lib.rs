@@ -3,8 +3,8 @@
 //! Nine boards hang, and the bridge goes on delivering their last record, whose MAC is good. The
 //! controller hands each record out once: the nine go dark. Of the others one is a second maker's, with
 //! another layout of nonces, one is of the first series, with a shorter MAC, one passes the 16-bit turn of
-//! its numbers, one changes its key while records of the old one are late, one is fed forged records, and
-//! some have a bus that loses and reorders.
+//! its numbers, one changes its key while records of the old one are late, one is fed forged records, one has
+//! a wide window for a burst whose records overtake each other, and some have a bus that loses and reorders.
 //!
 //! Before them a board on the test bench speaks over an ordered cable, with the profile whose records say no
 //! number: all are handed out until one is lost, and then none till the key is changed.
@@ -34,7 +34,7 @@ pub use bridge::Bridge;
 pub use bus::{Bus, Fate, Forgery};
 pub use controller::Controller;
 pub use element::{Element, Tally};
-pub use plan::{Plan, KT1, OLD_MAC, PLANS};
+pub use plan::{Plan, BURST, KT1, OLD_MAC, PLANS, WIDE};
 pub use reading::Reading;
 pub use rng::Rng;
 pub use secret::Secret;

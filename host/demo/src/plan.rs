@@ -1,13 +1,22 @@
 //! What happens to each element. A tick is a second: every board sends one record in it.
 use crate::bus::{Fate, Forgery};
 use crate::ELEMENTS;
-use husk::{AUTHENTICATED, ENCRYPTED, LAYOUT_BIG, LAYOUT_LITTLE, MAC};
+use husk::{AUTHENTICATED, ENCRYPTED, LAYOUT_BIG, LAYOUT_LITTLE, MAC, WIDTH};
 
 /// For how many ticks after a key change the old key is held: DSP0276's KT1, ten seconds.
 pub const KT1: u32 = 10;
 
 /// How many records the long-serving board sent before the first tick: its turn comes at tick 56.
 const BEFORE: u64 = 65_480;
+
+/// How many records come in a burst before the first tick.
+pub const BURST: u64 = 480;
+
+/// How many others overtake a late record of the burst.
+const OVERTAKEN: u64 = 150;
+
+/// The window for such a burst: it reaches further than late records are behind.
+pub const WIDE: u16 = 256;
 
 /// How many MAC bytes a board of the first series has room for.
 pub const OLD_MAC: u8 = 8;
@@ -21,6 +30,8 @@ pub struct Plan {
     pub layout: u8,
     /// How many bytes its MAC has.
     pub mac: u8,
+    /// How many numbers its window remembers.
+    pub width: u16,
     /// How many records its board sent before the first tick.
     pub before: u64,
     /// The tick at which its board hangs.
@@ -35,6 +46,7 @@ const WELL: Plan = Plan {
     mode: ENCRYPTED,
     layout: LAYOUT_LITTLE,
     mac: MAC as u8,
+    width: WIDTH,
     before: 0,
     hangs: None,
     changes_key: None,
@@ -87,9 +99,11 @@ pub const PLANS: [Plan; ELEMENTS] = [
         ..WELL
     },
     hangs(66),
-    // 11: a bus that loses.
+    // 11: a burst in which records overtake each other by more than the usual window remembers.
     Plan {
-        fate: lossy,
+        width: WIDE,
+        before: BURST,
+        fate: burst,
         ..WELL
     },
     // 12: a board of the first series, and a bus that reorders.
@@ -115,6 +129,14 @@ fn clean(_: u64) -> Fate {
 fn lossy(n: u64) -> Fate {
     match n % 7 {
         3 => Fate::Lost,
+        _ => Fate::Through,
+    }
+}
+
+/// Few of the burst are late, so that each is overtaken by as many as it is late by.
+fn burst(n: u64) -> Fate {
+    match n % 160 {
+        9 if n < BURST => Fate::Late(OVERTAKEN),
         _ => Fate::Through,
     }
 }

@@ -1,6 +1,6 @@
 //! The docking sheet.
 use crate::{Controller, Element, Tally, OLD_MAC};
-use husk::{Refusal, LAYOUT_BIG};
+use husk::{Refusal, LAYOUT_BIG, WIDTH};
 use std::fmt;
 
 /// One element's row.
@@ -12,6 +12,8 @@ pub struct Row {
     pub layout: u8,
     /// How many bytes its MAC has.
     pub mac: u8,
+    /// How many numbers its window remembers.
+    pub width: u16,
     /// What became of its deliveries.
     pub tally: Tally,
     /// The gap count of its current key.
@@ -26,6 +28,7 @@ impl Row {
             session: element.session(),
             layout: element.layout(),
             mac: element.mac(),
+            width: element.width(),
             tally: element.tally(),
             gaps: controller.gaps(element)?,
             lit: element.is_lit(),
@@ -72,6 +75,11 @@ impl Sheet {
         self.those(|row| row.mac == OLD_MAC)
     }
 
+    /// The elements whose window is wider than usual, for bursts.
+    pub fn wide_window(&self) -> Vec<usize> {
+        self.those(|row| row.width > WIDTH)
+    }
+
     fn those(&self, such: fn(&Row) -> bool) -> Vec<usize> {
         (0..self.rows.len())
             .filter(|element| such(&self.rows[*element]))
@@ -106,6 +114,7 @@ impl fmt::Display for Sheet {
         }
         writeln!(f, "second maker: {}", list(&self.second_maker()))?;
         writeln!(f, "first series: {}", list(&self.first_series()))?;
+        writeln!(f, "wide window: {}", list(&self.wide_window()))?;
         writeln!(f, "dark: {}", list(&self.dark()))
     }
 }

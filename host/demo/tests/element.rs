@@ -1,7 +1,7 @@
 //! One element: two keys at once, and what is forged or not for it.
-use demo::{Board, Controller, Element, Reading, Rng, Secret, Tally};
+use demo::{Board, Bus, Controller, Element, Reading, Rng, Secret, Tally, BURST, PLANS};
 use husk::wrapping::read_message;
-use husk::{Refusal, Setting, BENCH_HEADER, CURRENT, MACS, PROFILE_BENCH, PROFILE_BUS};
+use husk::{Refusal, Setting, BENCH_HEADER, CURRENT, MACS, PROFILE_BENCH, PROFILE_BUS, WIDTHS};
 
 /// The Session ID behind the message's type byte: it says whose a message is.
 const SESSION: std::ops::Range<usize> = 1..5;
@@ -134,6 +134,31 @@ fn no_forged_record_blocks_the_true_one() {
             };
             forge_each_byte(setting);
         }
+    }
+}
+
+/// What becomes of the burst of element 11 with a window of this width.
+fn burst(width: u16) -> Tally {
+    let mut pair = Pair::of(Setting { width, ..USUAL });
+    let mut bus = Bus::new(PLANS[11].fate);
+    for _ in 0..BURST {
+        let (message, _) = pair.send();
+        for arrived in bus.carry(&message) {
+            pair.controller.deliver(&arrived);
+        }
+    }
+    pair.element().tally()
+}
+
+#[test]
+fn a_burst_needs_a_window_that_reaches_its_late_records() {
+    for (width, old) in WIDTHS.into_iter().zip([3, 3, 0, 0]) {
+        let tally = Tally {
+            handed: BURST - old,
+            repeats: old,
+            others: 0,
+        };
+        assert_eq!(burst(width), tally);
     }
 }
 

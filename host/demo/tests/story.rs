@@ -1,6 +1,6 @@
 //! The story, period by period, and each part of it for its own reason.
 use demo::{Bay, Board, Controller, Rng, Row, Secret, Sheet, Tally};
-use demo::{ELEMENTS, OLD_MAC, PERIODS, PLANS};
+use demo::{BURST, ELEMENTS, OLD_MAC, PERIODS, PLANS, WIDE};
 use husk::{Offered, Refusal, Setting, CURRENT, LAYOUT_BIG, LAYOUT_LITTLE, MACS, OLD};
 use husk::{PROFILE_BENCH, PROFILE_BUS};
 
@@ -45,6 +45,7 @@ fn the_nine_go_dark_and_no_other() {
     }
     the_second_maker_is_read(&bay, last);
     the_first_series_is_read(&bay, last);
+    the_burst_is_read(&bay, last);
     the_turn_is_passed(&bay, last);
     the_key_is_changed(&bay, last);
     forged_records_are_counted(last);
@@ -93,8 +94,22 @@ fn the_first_series_is_read(bay: &Bay, rows: &[Row]) {
         ..Tally::default()
     };
     assert_eq!((rows[12].tally, rows[12].mac), (tally, OLD_MAC));
-    let [old, usual] = [12, 11].map(|element| probe(bay, element, 200).unwrap().text);
+    let [old, usual] = [12, 0].map(|element| probe(bay, element, 200).unwrap().text);
     assert_eq!(old - usual, 16 - usize::from(OLD_MAC));
+}
+
+/// Element 11: records of its burst were overtaken by 150 others, and all are handed out.
+fn the_burst_is_read(bay: &Bay, rows: &[Row]) {
+    assert_eq!(Sheet::of(bay.controller()).unwrap().wide_window(), vec![11]);
+    next_is(bay, 11, 0, BURST + 120);
+    let tally = Tally {
+        handed: BURST + 120,
+        ..Tally::default()
+    };
+    assert_eq!(
+        (rows[11].tally, rows[11].gaps, rows[11].width),
+        (tally, 0, WIDE)
+    );
 }
 
 /// Element 3: of 65,480 records every 50th arrived; of the 120 after them 7 are lost, and the last one is
