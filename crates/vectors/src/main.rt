@@ -3,6 +3,7 @@ mod bench;
 mod print;
 mod records;
 mod sizes;
+mod widths;
 mod wrapping;
 
 fn main() {
@@ -14,6 +15,7 @@ fn main() {
     sizes::largest_with_12();
     sizes::smallest();
     bench::settled_twice();
+    widths::late_by_150();
     wrapping::inner();
     wrapping::outer();
 }
