@@ -10,9 +10,9 @@
  * length 0 may be NULL.
  *
  * What you must do:
- *   - Open both ends of a channel with the same setting, its layout, its MAC's length and its profile
- *     included, and the same key and IV. Between ends that differ in one of them nothing is promised: see
- *     HAZELHUSK_LAYOUT_LITTLE, HAZELHUSK_MAC_BYTES and HAZELHUSK_PROFILE_BUS.
+ *   - Open both ends of a channel with the same setting, its layout, its MAC's length, its profile and its
+ *     width included, and the same key and IV. Between ends that differ in one of them nothing is promised:
+ *     see HAZELHUSK_LAYOUT_LITTLE, HAZELHUSK_MAC_BYTES, HAZELHUSK_PROFILE_BUS and HAZELHUSK_WINDOW_WIDTH.
  *   - Keep the state that the last call left, and call with no other. A copy that is older repeats
  *     numbers. Give one state to one thread at a time.
  *   - Let no pointer of a call alias another: not the state, not the output buffer.
@@ -71,8 +71,8 @@ extern "C" {
 #define HAZELHUSK_PROFILE_BENCH 1u  /* Session ID, Length */
 
 /* How many numbers below the next a receive window remembers is chosen at open: 64, 128, 192 or 256, as far
- * as records may overtake each other. One that comes later than that is HAZELHUSK_OLD. Only the receiver's
- * counts: a sender has it because a setting has, and ends that differ in nothing else understand each other. */
+ * as records may overtake each other. One that comes later than that is HAZELHUSK_OLD. No record depends on
+ * it: a sender has it because both ends have the same setting. See docs/INTEGRATION.md, 'Which width'. */
 #define HAZELHUSK_WINDOW_WIDTH 64u    /* the usual one, and the narrowest */
 #define HAZELHUSK_WINDOW_WIDEST 256u  /* the widest */
 

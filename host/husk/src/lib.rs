@@ -65,7 +65,8 @@ pub const MACS: [u8; 3] = [8, 12, 16];
 /// The usual length of a record's MAC, and the longest.
 pub const MAC: usize = 16;
 /// How many numbers below the next a receive window may remember: as far as records may overtake each other. One
-/// that comes later than that is [`Refusal::Old`]. Only the receiver's counts.
+/// that comes later than that is [`Refusal::Old`]. No record depends on it: a sender has it because both ends have
+/// the same setting.
 pub const WIDTHS: [u16; 4] = [64, 128, 192, 256];
 /// The usual width of a receive window, and the narrowest.
 pub const WIDTH: u16 = 64;
