@@ -190,8 +190,13 @@ fn each_width_but_the_four_is_refused() {
         let refused = if bad { Refusal::Setting.number() } else { 0 };
         let ours = opened::<Husk>(setting);
         assert_eq!((ours.0, &ours), ([refused; 2], &opened::<Memory>(setting)), "{width}");
-        let row = raw::Table::default().open(setting_in(setting), [1; 12], [2; 12]).answer;
-        assert_eq!((row, Table::default().open(setting, [1; 12], [2; 12]).answer), (refused, refused), "{width}");
-        assert_eq!(answers(RawReceiver { setting, ..RawReceiver::default() }), [u8::from(bad); 4], "{width}");
+        let state = RawReceiver { setting, ..RawReceiver::default() };
+        assert_eq!([gaps::<Husk>(state), gaps::<Memory>(state)], [u8::from(bad); 2], "{width}");
+        // To make so many tables takes long, so they have those that look most like one of the four.
+        if width % 64 < 2 {
+            let row = raw::Table::default().open(setting_in(setting), [1; 12], [2; 12]).answer;
+            assert_eq!((row, Table::default().open(setting, [1; 12], [2; 12]).answer), (refused, refused), "{width}");
+            assert_eq!(answers(state), [u8::from(bad); 4], "{width}");
+        }
     }
 }

@@ -58,11 +58,14 @@ fn key_of(words: &[u64]) -> RawKey {
 
 fn row_words(row: &RawRow) -> Words {
     let (r, s) = (&row.receiver, &row.sender);
-    let receiver = [&setting_words(r.setting)[..], &[r.count.into()], &key_words(&r.current)];
-    let old = [&[r.held.into()][..], &key_words(&r.old)];
-    let sender = [&setting_words(s.setting)[..], &[s.count.into(), s.next], &iv_words(s.iv)];
-    let words = [receiver.concat(), old.concat(), sender.concat()].concat();
-    words.try_into().expect("as many words as a row has")
+    let receiver = setting_words(r.setting).into_iter().chain([r.count.into()]).chain(key_words(&r.current));
+    let old = [r.held.into()].into_iter().chain(key_words(&r.old));
+    let sender = setting_words(s.setting).into_iter().chain([s.count.into(), s.next]).chain(iv_words(s.iv));
+    let mut words = [0; 26];
+    for (word, number) in words.iter_mut().zip(receiver.chain(old).chain(sender)) {
+        *word = number;
+    }
+    words
 }
 
 fn row_of(words: &Words) -> RawRow {
