@@ -3,6 +3,8 @@
 use Rattle.answers.proofs.OneAnswer.{OneAnswer, one}
 use Rattle.record.proofs.setting.Setting.zeros.Reads as zeros
 use Rattle.record.proofs.setting.Setting.auth_only.Reads as auth-only
+use Rattle.record.proofs.setting.Setting.number_first.Reads as number-first
+use Rattle.record.proofs.setting.Setting.has_partial.Reads as has-partial
 use Rattle.record.proofs.setting.Setting.is_bad.Reads as is-bad
 use Rattle.record.proofs.setting.Setting.rule.Reads as rule
 use Rattle.record.proofs.nonces.nonce.Reads as nonce
@@ -19,6 +21,12 @@ zeros-one κs a x y s t p q = one p q
 
 pub auth-only-one : OneAnswer auth-only.Post (λ κs x s. x)
 auth-only-one κs a x y s t p q = one p q
+
+pub number-first-one : OneAnswer number-first.Post (λ κs x s. x)
+number-first-one κs a x y s t p q = one p q
+
+pub has-partial-one : OneAnswer has-partial.Post (λ κs x s. x)
+has-partial-one κs a x y s t p q = one p q
 
 pub is-bad-one : OneAnswer is-bad.Post (λ κs x s. x)
 is-bad-one κs a x y s t p q = one p q
