@@ -1,1 +1,2 @@
 // No code: the demands over whole runs of the controller's table.
+#![tactic(auto)]

@@ -10,7 +10,7 @@ use record::Record;
 
 // assoc and text are the ends of the associated data and of the text.
 #[repr(C)]
-#[derive(Drop)]
+#[derive(Clone, Copy)]
 pub struct Offered {
     pub answer: u8,
     pub count: u32,
@@ -22,7 +22,7 @@ pub struct Offered {
 
 // place and length are those of the application data.
 #[repr(C)]
-#[derive(Drop)]
+#[derive(Clone, Copy)]
 pub struct Settled {
     pub answer: u8,
     pub place: u64,
@@ -31,7 +31,7 @@ pub struct Settled {
 }
 
 // What the checks that Offer and Settle share find.
-#[derive(Drop)]
+#[derive(Clone, Copy)]
 struct Looked {
     answer: u8,
     number: u64,

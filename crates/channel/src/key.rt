@@ -8,7 +8,7 @@ use record::Setting;
 
 // Its IV and its window.
 #[repr(C)]
-#[derive(Drop)]
+#[derive(Clone, Copy)]
 pub struct Key {
     pub iv: [u8; 12],
     pub window: Window,

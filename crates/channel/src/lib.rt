@@ -1,4 +1,6 @@
 // The two ends of a channel.
+#![tactic(auto)]
+
 mod delivery;
 mod key;
 mod receiver;

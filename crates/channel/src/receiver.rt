@@ -10,7 +10,7 @@ use record::Setting;
 
 // count is the key count. The old key is there where held is true, else its fields are zeros.
 #[repr(C)]
-#[derive(Drop)]
+#[derive(Clone, Copy)]
 pub struct Receiver {
     pub setting: Setting,
     pub count: u32,
@@ -20,7 +20,7 @@ pub struct Receiver {
 }
 
 #[repr(C)]
-#[derive(Drop)]
+#[derive(Clone, Copy)]
 pub struct Counted {
     pub answer: u8,
     pub gaps: u32,
@@ -28,7 +28,7 @@ pub struct Counted {
 
 // The answer to a call that gives the next state back and nothing else.
 #[repr(C)]
-#[derive(Drop)]
+#[derive(Clone, Copy)]
 pub struct ReceiverStep {
     pub answer: u8,
     pub next: Receiver,

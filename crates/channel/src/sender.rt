@@ -8,7 +8,7 @@ use record::{Form, Setting};
 
 // count is the key count, next the number of the next record.
 #[repr(C)]
-#[derive(Drop)]
+#[derive(Clone, Copy)]
 pub struct Sender {
     pub setting: Setting,
     pub count: u32,
@@ -18,7 +18,7 @@ pub struct Sender {
 
 // The answer to a call that gives the next state back and nothing else.
 #[repr(C)]
-#[derive(Drop)]
+#[derive(Clone, Copy)]
 pub struct SenderStep {
     pub answer: u8,
     pub next: Sender,
@@ -26,7 +26,7 @@ pub struct SenderStep {
 
 // assoc, text and total are the ends of the associated data, of the text and of the record.
 #[repr(C)]
-#[derive(Drop)]
+#[derive(Clone, Copy)]
 pub struct Built {
     pub answer: u8,
     pub number: u64,

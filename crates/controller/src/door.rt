@@ -7,7 +7,7 @@ use crate::{scan, table};
 use answers::Refusal;
 use rows::Row;
 
-#[derive(Drop)]
+#[derive(Clone, Copy)]
 pub(crate) struct Reached {
     pub(crate) answer: u8,
     pub(crate) at: usize,

@@ -1,5 +1,7 @@
 // The controller's table: sixteen rows, each free or holding one receiver and one sender. It is lent,
 // since copies of it would cost more than all else.
+#![tactic(auto)]
+
 mod door;
 mod opening;
 mod receiving;

@@ -11,7 +11,7 @@ use record::Setting;
 use rows::Row;
 
 #[repr(C)]
-#[derive(Drop)]
+#[derive(Clone, Copy)]
 pub struct Opened {
     pub answer: u8,
     pub row: u8,

@@ -15,7 +15,7 @@ use channel::{Counted, Offered};
 
 // place and length are those of the application data.
 #[repr(C)]
-#[derive(Drop)]
+#[derive(Clone, Copy)]
 pub struct Taken {
     pub answer: u8,
     pub place: u64,

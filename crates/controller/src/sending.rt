@@ -10,7 +10,7 @@ use crate::{door, table};
 
 // assoc, text and total are the ends of the associated data, of the text and of the record.
 #[repr(C)]
-#[derive(Drop)]
+#[derive(Clone, Copy)]
 pub struct Sent {
     pub answer: u8,
     pub number: u64,

@@ -7,7 +7,7 @@ use record::Setting;
 
 // Twelve bytes in a struct, since C passes no array by value.
 #[repr(C)]
-#[derive(Drop)]
+#[derive(Clone, Copy)]
 pub struct Iv {
     pub bytes: [u8; 12],
 }

@@ -36,7 +36,7 @@ fn kind_of(byte: u8) -> u8
 
 // What is read of application data before its body.
 #[repr(C)]
-#[derive(Drop)]
+#[derive(Clone, Copy)]
 pub struct Data {
     pub answer: u8,
     pub integrity: bool,

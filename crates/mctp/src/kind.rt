@@ -1,7 +1,7 @@
 // Message types.
 
 // The type of an MCTP message, in the low bits of a byte whose top bit is the integrity check's.
-#[derive(Drop)]
+#[derive(Clone, Copy)]
 pub struct Kind {
     pub number: u8,
 }

@@ -6,7 +6,7 @@ use answers::Refusal;
 
 // What a writer answers: 0 and how many bytes it wrote, or a refusal and 0.
 #[repr(C)]
-#[derive(Drop)]
+#[derive(Clone, Copy)]
 pub struct Wrote {
     pub answer: u8,
     pub length: u64,

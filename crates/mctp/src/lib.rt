@@ -1,5 +1,7 @@
 // The wrapping around a record: the byte before it that makes it an MCTP message, and the byte before
 // the body inside it that makes that application data.
+#![tactic(auto)]
+
 mod application;
 mod kind;
 mod led;

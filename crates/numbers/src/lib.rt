@@ -1,4 +1,6 @@
 // The numbers of one receive key: which number a record has, and which numbers are marked.
+#![tactic(auto)]
+
 mod marks;
 mod window;
 

@@ -7,7 +7,7 @@ ghost use Rattle.numbers.specs.Word.{most, bit, set_bit, word_of, marks_of};
 
 // Bit i of the number is bit i % 64 of word i / 64.
 #[repr(C)]
-#[derive(Drop)]
+#[derive(Clone, Copy)]
 pub struct Marks {
     pub words: [u64; 4],
 }

@@ -7,7 +7,7 @@ use answers::Refusal;
 
 // What a channel sets for the windows of its keys: how many numbers below next are remembered, and
 // the limit that numbers stay below.
-#[derive(Drop)]
+#[derive(Clone, Copy)]
 pub struct Rule {
     pub width: u64,
     pub limit: u64,
@@ -16,14 +16,14 @@ pub struct Rule {
 // next is one more than the highest number marked, 0 where none is. Bit i of marks is set where
 // next - 1 - i is marked.
 #[repr(C)]
-#[derive(Drop)]
+#[derive(Clone, Copy)]
 pub struct Window {
     pub next: u64,
     pub marks: Marks,
 }
 
 // The answer to a partial number: 0 and the whole number, or a refusal's number and 0.
-#[derive(Drop)]
+#[derive(Clone, Copy)]
 pub struct Placed {
     pub answer: u8,
     pub number: u64,

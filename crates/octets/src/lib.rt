@@ -1,5 +1,7 @@
 // Bytes of a slice: fields, parts, and bytes put into it. A missing byte reads as 0, and what does
 // not fit is not put.
+#![tactic(auto)]
+
 mod fields;
 mod parts;
 

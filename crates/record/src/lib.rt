@@ -1,4 +1,6 @@
 // The setting of a channel, and the shape that it gives a record.
+#![tactic(auto)]
+
 mod header;
 mod nonces;
 mod reader;

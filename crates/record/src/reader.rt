@@ -9,7 +9,7 @@ use numbers::{Placed, Window};
 
 // What is read of a record before any key is looked at: the ends of the associated data and of the
 // text, the length of the plaintext buffer, and the place of the data.
-#[derive(Drop)]
+#[derive(Clone, Copy)]
 pub struct Record {
     pub answer: u8,
     pub assoc: u64,

@@ -9,7 +9,7 @@ use numbers::Rule;
 // sends the low 16 bits of the number, profile 1 none of it. A window remembers 64, 128, 192 or 256
 // numbers. Usable numbers are those below the limit.
 #[repr(C)]
-#[derive(Drop)]
+#[derive(Clone, Copy)]
 pub struct Setting {
     pub mode: u8,
     pub layout: u8,

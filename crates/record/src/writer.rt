@@ -11,7 +11,7 @@ use answers::Refusal;
 
 // The form of a record that is to be built: the ends of its associated data, of its text, and its
 // own.
-#[derive(Drop)]
+#[derive(Clone, Copy)]
 pub struct Form {
     pub answer: u8,
     pub assoc: u64,

@@ -6,7 +6,7 @@ use crate::{ends, part};
 use channel::{Receiver, Sender};
 
 // Nineteen words of the receiver, then seven of the sender.
-#[derive(Drop)]
+#[derive(Clone, Copy)]
 pub struct Row {
     pub words: [u64; 26],
 }

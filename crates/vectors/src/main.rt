@@ -1,4 +1,6 @@
 // Page 01's worked cases ('Run by a program and compared'), one line each.
+#![tactic(auto)]
+
 mod bench;
 mod print;
 mod records;

@@ -1,0 +1,6 @@
+use Rattle.numbers.proofs.Word.{same_is}
+use borrow.Author.Rules.{rules}
+use Rattle.numbers.proofs.marks.Marks.same.Goals as goal
+
+pub returns : goal.returns
+returns c = same_is _ _ (search rules) (search rules)

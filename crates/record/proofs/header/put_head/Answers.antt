@@ -1,0 +1,32 @@
+use Rattle.octets.proofs.Puts.{putting}
+use Rattle.record.proofs.Heads.{partial_length, bare_length}
+use Rattle.record.proofs.Writes.{head_written, bare_written}
+use native.Mathlib.Omega.{arith}
+use mathlib.Core.Path.{sym, ◌∙◌}
+use borrow.Author.Rules.{rules}
+use Rattle.record.proofs.header.put_head.Goals as goal
+
+pub returns-then-partial : goal.returns-then-partial
+returns-then-partial c =
+    let a = c.args in
+    let put-little32 = c.put-little32 in
+    let has-partial = c.has-partial in
+    let if1 = c.if-partial in
+    let put-little16 = c.put-little16 in
+    let put-little162 = c.put-little162 in
+    let p = sym has-partial.ensures ∙ if1.true in
+    let l = partial_length a.setting p in
+    head_written a.out.now _ _ _ _ _ _ p
+    (putting _ _ _ _ put-little32.ensures (omega arith)) (putting _ _ _ _ put-little16.ensures (omega arith)) (putting _ _ _ _ put-little162.ensures (omega arith))
+
+pub returns : goal.returns
+returns c =
+    let a = c.args in
+    let put-little32 = c.put-little32 in
+    let has-partial = c.has-partial in
+    let if1 = c.if-partial in
+    let put-little163 = c.put-little163 in
+    let p = sym has-partial.ensures ∙ if1.false in
+    let l = bare_length a.setting p in
+    bare_written a.out.now _ _ _ a.number _ p
+    (putting _ _ _ _ put-little32.ensures (omega arith)) (putting _ _ _ _ put-little163.ensures (omega arith))

@@ -1,0 +1,12 @@
+use Prim.Native.Nat.{ℕ}
+use mathlib.Core.List.{List, ◌++◌, reverse}
+use mathlib.Core.Path.{ap}
+use lib.ListN.{get_or}
+use Rattle.record.specs.Nonce.{each}
+use borrow.Author.Rules.{rules}
+use Rattle.record.proofs.nonces.last.Goals as goal
+
+pub returns : goal.returns
+returns c =
+    let iv : List ℕ = c.args.t1 in
+    ap (λ (l : List ℕ). each (λ i. get_or iv i 0) 0 4 ++ reverse (each (λ i. get_or l i 0) 0 8)) c.masked-b.ensures

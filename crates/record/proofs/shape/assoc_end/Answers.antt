@@ -1,0 +1,12 @@
+use Rattle.record.specs.Shape.{assoc_end}
+use mathlib.Core.Path.{sym, ◌∙◌}
+use borrow.Author.Rules.{rules}
+use Rattle.record.proofs.shape.assoc_end.Goals as goal
+
+pub returns-then-clear : goal.returns-then-clear
+unfolding assoc_end
+returns-then-clear c = rw (sym c.auth-only.ensures ∙ c.if-clear.true) c.text-end.ensures
+
+pub returns : goal.returns
+unfolding assoc_end
+returns c = rw (sym c.auth-only.ensures ∙ c.if-clear.false) c.start_of_lem.ensures

@@ -1,0 +1,12 @@
+use Rattle.record.specs.Shape.{data_place}
+use mathlib.Core.Path.{sym, ◌∙◌}
+use borrow.Author.Rules.{rules}
+use Rattle.record.proofs.shape.data_place.Goals as goal
+
+pub returns-then-clear : goal.returns-then-clear
+unfolding data_place
+returns-then-clear c = rw (sym c.auth-only.ensures ∙ c.if-clear.true) c.start_of_lem.ensures
+
+pub returns : goal.returns
+unfolding data_place
+returns c = rw (sym c.auth-only.ensures ∙ c.if-clear.false) c.inner-len.ensures

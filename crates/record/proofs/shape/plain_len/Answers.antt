@@ -1,0 +1,12 @@
+use Rattle.record.specs.Shape.{plain_len}
+use mathlib.Core.Path.{sym, ◌∙◌}
+use borrow.Author.Rules.{rules}
+use Rattle.record.proofs.shape.plain_len.Goals as goal
+
+pub returns-then-clear : goal.returns-then-clear
+unfolding plain_len
+returns-then-clear c = rw (sym c.auth-only.ensures ∙ c.if-clear.true)
+
+pub returns : goal.returns
+unfolding plain_len
+returns c = rw (sym c.auth-only.ensures ∙ c.if-clear.false) c.inside.ensures

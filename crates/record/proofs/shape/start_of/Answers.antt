@@ -1,0 +1,7 @@
+use Rattle.record.specs.Shape.{start_of}
+use borrow.Author.Rules.{rules}
+use Rattle.record.proofs.shape.start_of.Goals as goal
+
+pub returns : goal.returns
+unfolding start_of
+returns c = c.head-len.ensures

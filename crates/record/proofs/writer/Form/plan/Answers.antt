@@ -1,0 +1,86 @@
+use Rattle.record.proofs.Forms.{small}
+use Rattle.record.specs.Write.{length_for, assoc_end_for, form_rows, form_of}
+use Rattle.record.specs.Shape.{most_length}
+use borrow.Author.Tests.{ltb-false}
+use Prim.Native.Nat.{◌≤◌}
+use native.Mathlib.Omega.{arith}
+use mathlib.Core.Path.{sym, ◌∙◌}
+use borrow.Author.Rules.{rules}
+use Rattle.record.proofs.writer.Form.plan.Goals as goal
+
+pub returns-then-padded : goal.returns-then-padded
+unfolding form_of form_rows
+returns-then-padded c = c.refused.ensures ∙ rw (rw c.auth-only.ensures at c.if-padded.true)
+
+pub returns-then-big : goal.returns-then-big
+unfolding form_of form_rows
+returns-then-big c =
+    let auth-only = c.auth-only in
+    let if1 = c.if-padded in
+    let oversize = c.oversize-big in
+    let if2 = c.if-big in
+    c.refused-then-big.ensures ∙ rw (rw auth-only.ensures at if1.false, sym oversize.ensures ∙ if2.true)
+
+pub body_len-requires : goal.body_len-requires
+body_len-requires c = ltb-false _ _ (sym c.oversize-big.ensures ∙ c.if-big.false)
+
+pub overflow_add-text : goal.overflow_add-text
+overflow_add-text c =
+    let args = c.args in
+    let oversize = c.oversize-big in
+    let if2 = c.if-big in
+    let head-len = c.head-len in
+    let a = args in
+    let b = small a.setting in
+    let h : length_for a.setting a.p a.q ≤ most_length a.setting = ltb-false _ _ (sym oversize.ensures ∙ if2.false) in
+    omega (arith, c.body-len.ensures, head-len.ensures)
+
+pub overflow_add-total : goal.overflow_add-total
+overflow_add-total c =
+    let args = c.args in
+    let oversize = c.oversize-big in
+    let if2 = c.if-big in
+    let head-len = c.head-len in
+    let body-len = c.body-len in
+    let a = args in
+    let b = small a.setting in
+    let h : length_for a.setting a.p a.q ≤ most_length a.setting = ltb-false _ _ (sym oversize.ensures ∙ if2.false) in
+    omega (arith, body-len.ensures, head-len.ensures, c.mac-len.ensures)
+
+pub returns-then-clear : goal.returns-then-clear
+unfolding form_of form_rows assoc_end_for
+returns-then-clear c =
+    let auth-only = c.auth-only in
+    let if1 = c.if-padded in
+    let oversize = c.oversize-big in
+    let if2 = c.if-big in
+    let head-len = c.head-len in
+    let body-len = c.body-len in
+    let mac-len = c.mac-len in
+    rw (
+      rw auth-only.ensures at if1.false,
+      sym oversize.ensures ∙ if2.false,
+      body-len.ensures,
+      head-len.ensures,
+      mac-len.ensures,
+      sym auth-only.ensures ∙ c.if-clear.true,
+    )
+
+pub returns : goal.returns
+unfolding form_of form_rows assoc_end_for
+returns c =
+    let auth-only = c.auth-only in
+    let if1 = c.if-padded in
+    let oversize = c.oversize-big in
+    let if2 = c.if-big in
+    let head-len = c.head-len in
+    let body-len = c.body-len in
+    let mac-len = c.mac-len in
+    rw (
+      rw auth-only.ensures at if1.false,
+      sym oversize.ensures ∙ if2.false,
+      body-len.ensures,
+      head-len.ensures,
+      mac-len.ensures,
+      sym auth-only.ensures ∙ c.if-clear.false,
+    )

@@ -1,0 +1,36 @@
+use Rattle.record.proofs.Forms.{small}
+use Rattle.record.specs.Write.{body_len}
+use native.Mathlib.Omega.{arith}
+use mathlib.Core.Path.{sym, ◌∙◌}
+use borrow.Author.Rules.{rules}
+use Rattle.record.proofs.writer.body_len.Goals as goal
+
+pub returns-then-clear : goal.returns-then-clear
+unfolding body_len
+returns-then-clear c = rw (sym c.auth-only.ensures ∙ c.if-clear.true)
+
+pub overflow_add-result : goal.overflow_add-result
+unfolding body_len
+overflow_add-result c =
+    let args = c.args in
+    let pre = c.requires in
+    let auth-only = c.auth-only in
+    let if1 = c.if-clear in
+    let a = args in
+    let b = small a.setting in
+    let p = rw (sym auth-only.ensures ∙ if1.false) at (pre) in omega (arith, c.inner-len.ensures)
+
+pub overflow_add-result-2 : goal.overflow_add-result-2
+unfolding body_len
+overflow_add-result-2 c =
+    let args = c.args in
+    let pre = c.requires in
+    let auth-only = c.auth-only in
+    let if1 = c.if-clear in
+    let a = args in
+    let b = small a.setting in
+    let p = rw (sym auth-only.ensures ∙ if1.false) at (pre) in omega (arith, c.inner-len.ensures)
+
+pub returns : goal.returns
+unfolding body_len
+returns c = rw (sym c.auth-only.ensures ∙ c.if-clear.false, c.inner-len.ensures)
