@@ -5,8 +5,8 @@ use Rattle.record.proofs.header.length_at.Goals as goal
 
 pub returns-then-partial : goal.returns-then-partial
 unfolding length_at
-returns-then-partial c = rw (sym c.has-partial.ensures ∙ c.if-partial.true)
+returns-then-partial c = rw (sym c.has_partial-partial.ensures ∙ c.if-partial.true)
 
 pub returns-else-partial : goal.returns-else-partial
 unfolding length_at
-returns-else-partial c = rw (sym c.has-partial.ensures ∙ c.if-partial.false)
+returns-else-partial c = rw (sym c.has_partial-partial.ensures ∙ c.if-partial.false)

@@ -8,5 +8,5 @@ use Rattle.record.proofs.nonces.first.Goals as goal
 
 pub returns : goal.returns
 returns c =
-    let iv : List ℕ = c.args.t1 in
+    let iv : List ℕ = c.args.iv in
     ap (λ (l : List ℕ). each (λ i. get_or l i 0) 0 8 ++ each (λ i. get_or iv i 0) 8 4) c.masked-b.ensures

@@ -17,5 +17,5 @@ returns c =
     let n : ℕ = c.args.number in
     let x : List ℕ = little 8 (bit_xor (field b 0 8) n) in
     let typed : (i : ℕ) → Fits w8 (get_or b i 0) = λ i. search rules in
-    c.bytes_of.ensures ∙ ap (λ (w : ℕ). little 8 (bit_xor w n)) c.word_of_lem.ensures
+    c.bytes_of.ensures ∙ ap (λ (w : ℕ). little 8 (bit_xor w n)) c.word_of.ensures
     ∙ each_same (λ i. get_or x i 0) (masked b (little 8 n)) 0 8 (λ i h. xor_field b (λ j. (typed j).fits) 8 n i h)

@@ -7,18 +7,18 @@ use Rattle.record.proofs.shape.least.Goals as goal
 
 pub returns-then-clear : goal.returns-then-clear
 unfolding least
-returns-then-clear c = rw (sym c.auth-only.ensures ∙ c.if-clear.true) c.mac-len.ensures
+returns-then-clear c = rw (sym c.auth_only-clear.ensures ∙ c.if-clear.true) c.mac_len.ensures
 
 pub overflow_add-result : goal.overflow_add-result
 overflow_add-result c =
     let a = c.args in
-    let inner-len = c.inner-len in
-    let b = small a.setting in omega (arith, inner-len.ensures, c.mac-len2.ensures)
+    let inner-len = c.inner_len in
+    let b = small a.setting in omega (arith, inner-len.ensures, c.mac_len-2.ensures)
 
 pub returns : goal.returns
 unfolding least
 returns c =
-    let auth-only = c.auth-only in
+    let auth-only = c.auth_only-clear in
     let if1 = c.if-clear in
-    let inner-len = c.inner-len in
-    rw (sym auth-only.ensures ∙ if1.false, inner-len.ensures, c.mac-len2.ensures)
+    let inner-len = c.inner_len in
+    rw (sym auth-only.ensures ∙ if1.false, inner-len.ensures, c.mac_len-2.ensures)

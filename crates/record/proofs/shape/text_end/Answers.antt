@@ -5,4 +5,4 @@ use Rattle.record.proofs.shape.text_end.Goals as goal
 
 pub returns : goal.returns
 unfolding text_end
-returns c = c.less.ensures ∙ rw c.mac-len.ensures
+returns c = c.less.ensures ∙ rw c.mac_len.ensures

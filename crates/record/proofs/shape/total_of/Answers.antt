@@ -5,8 +5,8 @@ use borrow.Author.Rules.{rules}
 use Rattle.record.proofs.shape.total_of.Goals as goal
 
 pub overflow_add-result : goal.overflow_add-result
-overflow_add-result c = let b = small c.args.setting in omega (arith, c.head-len.ensures)
+overflow_add-result c = let b = small c.args.setting in omega (arith, c.head_len.ensures)
 
 pub returns : goal.returns
 unfolding total_of
-returns c = rw (c.head-len.ensures, c.length-of.ensures)
+returns c = rw (c.head_len.ensures, c.length_of.ensures)

@@ -7,30 +7,30 @@ use Rattle.record.proofs.writer.body_len.Goals as goal
 
 pub returns-then-clear : goal.returns-then-clear
 unfolding body_len
-returns-then-clear c = rw (sym c.auth-only.ensures ∙ c.if-clear.true)
+returns-then-clear c = rw (sym c.auth_only-clear.ensures ∙ c.if-clear.true)
 
 pub overflow_add-result : goal.overflow_add-result
 unfolding body_len
 overflow_add-result c =
     let args = c.args in
     let pre = c.requires in
-    let auth-only = c.auth-only in
+    let auth-only = c.auth_only-clear in
     let if1 = c.if-clear in
     let a = args in
     let b = small a.setting in
-    let p = rw (sym auth-only.ensures ∙ if1.false) at (pre) in omega (arith, c.inner-len.ensures)
+    let p = rw (sym auth-only.ensures ∙ if1.false) at (pre) in omega (arith, c.inner_len.ensures)
 
 pub overflow_add-result-2 : goal.overflow_add-result-2
 unfolding body_len
 overflow_add-result-2 c =
     let args = c.args in
     let pre = c.requires in
-    let auth-only = c.auth-only in
+    let auth-only = c.auth_only-clear in
     let if1 = c.if-clear in
     let a = args in
     let b = small a.setting in
-    let p = rw (sym auth-only.ensures ∙ if1.false) at (pre) in omega (arith, c.inner-len.ensures)
+    let p = rw (sym auth-only.ensures ∙ if1.false) at (pre) in omega (arith, c.inner_len.ensures)
 
 pub returns : goal.returns
 unfolding body_len
-returns c = rw (sym c.auth-only.ensures ∙ c.if-clear.false, c.inner-len.ensures)
+returns c = rw (sym c.auth_only-clear.ensures ∙ c.if-clear.false, c.inner_len.ensures)

@@ -11,9 +11,9 @@ pub returns : goal.returns
 unfolding head_len inner_len
 returns c =
     let args = c.args in
-    let head-len = c.head-len in
-    let put-little16 = c.put-little16 in
-    let inner-len = c.inner-len in
+    let head-len = c.head_len-at in
+    let put-little16 = c.put_little16 in
+    let inner-len = c.inner_len in
     let put = c.put in
     let put2 = c.put-2 in
     let a = args in

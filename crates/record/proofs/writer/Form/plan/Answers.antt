@@ -10,12 +10,12 @@ use Rattle.record.proofs.writer.Form.plan.Goals as goal
 
 pub returns-then-padded : goal.returns-then-padded
 unfolding form_of form_rows
-returns-then-padded c = c.refused.ensures ∙ rw (rw c.auth-only.ensures at c.if-padded.true)
+returns-then-padded c = c.refused.ensures ∙ rw (rw c.auth_only-clear.ensures at c.if-padded.true)
 
 pub returns-then-big : goal.returns-then-big
 unfolding form_of form_rows
 returns-then-big c =
-    let auth-only = c.auth-only in
+    let auth-only = c.auth_only-clear in
     let if1 = c.if-padded in
     let oversize = c.oversize-big in
     let if2 = c.if-big in
@@ -29,34 +29,34 @@ overflow_add-text c =
     let args = c.args in
     let oversize = c.oversize-big in
     let if2 = c.if-big in
-    let head-len = c.head-len in
+    let head-len = c.head_len-head in
     let a = args in
     let b = small a.setting in
     let h : length_for a.setting a.p a.q ≤ most_length a.setting = ltb-false _ _ (sym oversize.ensures ∙ if2.false) in
-    omega (arith, c.body-len.ensures, head-len.ensures)
+    omega (arith, c.body_len.ensures, head-len.ensures)
 
 pub overflow_add-total : goal.overflow_add-total
 overflow_add-total c =
     let args = c.args in
     let oversize = c.oversize-big in
     let if2 = c.if-big in
-    let head-len = c.head-len in
-    let body-len = c.body-len in
+    let head-len = c.head_len-head in
+    let body-len = c.body_len in
     let a = args in
     let b = small a.setting in
     let h : length_for a.setting a.p a.q ≤ most_length a.setting = ltb-false _ _ (sym oversize.ensures ∙ if2.false) in
-    omega (arith, body-len.ensures, head-len.ensures, c.mac-len.ensures)
+    omega (arith, body-len.ensures, head-len.ensures, c.mac_len.ensures)
 
 pub returns-then-clear : goal.returns-then-clear
 unfolding form_of form_rows assoc_end_for
 returns-then-clear c =
-    let auth-only = c.auth-only in
+    let auth-only = c.auth_only-clear in
     let if1 = c.if-padded in
     let oversize = c.oversize-big in
     let if2 = c.if-big in
-    let head-len = c.head-len in
-    let body-len = c.body-len in
-    let mac-len = c.mac-len in
+    let head-len = c.head_len-head in
+    let body-len = c.body_len in
+    let mac-len = c.mac_len in
     rw (
       rw auth-only.ensures at if1.false,
       sym oversize.ensures ∙ if2.false,
@@ -69,13 +69,13 @@ returns-then-clear c =
 pub returns : goal.returns
 unfolding form_of form_rows assoc_end_for
 returns c =
-    let auth-only = c.auth-only in
+    let auth-only = c.auth_only-clear in
     let if1 = c.if-padded in
     let oversize = c.oversize-big in
     let if2 = c.if-big in
-    let head-len = c.head-len in
-    let body-len = c.body-len in
-    let mac-len = c.mac-len in
+    let head-len = c.head_len-head in
+    let body-len = c.body_len in
+    let mac-len = c.mac_len in
     rw (
       rw auth-only.ensures at if1.false,
       sym oversize.ensures ∙ if2.false,
