@@ -11,7 +11,7 @@ use answers::Refusal;
 
 // The byte of E-IC and a type.
 fn byte_of(integrity: bool, kind: u8) -> u8
-    requires { kind ≤ Largest }
+    requires { kind ≤ largest }
     ensures { result ≡ byte_of integrity kind }
 {
     if integrity {

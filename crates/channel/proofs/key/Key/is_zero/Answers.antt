@@ -1,0 +1,7 @@
+use Rattle.channel.specs.Key.{is_zero_key}
+use borrow.Author.Rules.{rules}
+use Rattle.channel.proofs.key.Key.is_zero.Goals as goal
+
+pub returns : goal.returns
+unfolding is_zero_key
+returns c = rw (c.blank12.ensures, c.is_empty.ensures)

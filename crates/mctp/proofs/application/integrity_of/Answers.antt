@@ -1,0 +1,7 @@
+use mathlib.Core.Path.{refl}
+use Rattle.mctp.specs.Kind.{integrity_of}
+use Rattle.mctp.proofs.application.integrity_of.Goals as goal
+
+pub returns : goal.returns
+unfolding integrity_of
+returns c = refl

@@ -1,0 +1,7 @@
+use lib.Bits.{and_mask}
+use Rattle.mctp.specs.Kind.{kind_of}
+use Rattle.mctp.proofs.application.kind_of.Goals as goal
+
+pub returns : goal.returns
+unfolding kind_of
+returns c = and_mask c.args.byte 7

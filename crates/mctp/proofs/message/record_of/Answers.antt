@@ -1,0 +1,6 @@
+use mathlib.Core.Path.{◌∙◌}
+use borrow.Author.Rules.{rules}
+use Rattle.mctp.proofs.message.record_of.Goals as goal
+
+pub returns : goal.returns
+returns c = c.behind.ensures ∙ rw c.read_message.ensures

@@ -1,0 +1,17 @@
+use Prim.Native.Nat.{ℕ}
+use mir.Syntax.{w8}
+use mir.Val.{Fits}
+use mathlib.Core.Path.{◌≡◌, refl}
+use lib.ListN.{length, get_or}
+use Rattle.octets.proofs.Puts.{field_eight}
+use Rattle.rows.proofs.Words.{iv_back}
+use borrow.Author.Rules.{rules}
+use Rattle.rows.proofs.part.iv_words.Goals as goal
+
+pub returns : goal.returns
+returns c =
+    let iv = c.args.t1 in
+    let bytes : (i : ℕ) → Fits w8 (get_or iv i 0) = λ i. search rules in
+    let long : length iv ≡ 12 = search rules in
+    rw (c.little32-low.ensures, c.little32-high.ensures, c.little32-tail.ensures, ← (field_eight iv 0))
+    (refl, iv_back iv (λ i. (bytes i).fits) long)

@@ -1,0 +1,5 @@
+use borrow.Author.Rules.{rules}
+use Rattle.rows.proofs.part.key_of.Goals as goal
+
+pub returns : goal.returns
+returns c = rw c.iv_of.ensures
