@@ -57,12 +57,12 @@ step_both r p c B = record { related = (step_related r p c B.related).1; sane_pl
 pub run_both : (r : Receiver) (p : Plain) (cs : List Call) → Both r p → Both (reached r cs) (plain_reached p cs)
 unfolding reach_by plain_reached
 run_both r p [] B = B
-run_both r p (c ∷ cs) B = run_both _ _ cs (step_both r p c B)
+run_both r p (c ∷ cs) B = run_both (after_by look outcome change r c) (after_by plain_look outcome plain_change p c) cs (step_both r p c B)
 
 run_kept : {c n : ℕ} (p : Plain) (cs : List Call) → Known c n (keys_of p) → Known c n (keys_of (plain_reached p cs))
 unfolding reach_by plain_reached after_by
 run_kept p [] h = h
-run_kept p (c ∷ cs) h = run_kept _ cs (kept p (outcome (plain_look p) c).effect h)
+run_kept p (c ∷ cs) h = run_kept (plain_change p (outcome (plain_look p) c).effect) cs (kept p (outcome (plain_look p) c).effect h)
 
 pub same_setting_lem : (p : Plain) (e : Effect) → (plain_change p e).setting ≡ p.setting
 unfolding plain_change
@@ -74,7 +74,7 @@ same_setting_lem p dropping = refl
 pub run_setting : (p : Plain) (cs : List Call) → (plain_reached p cs).setting ≡ p.setting
 unfolding reach_by plain_reached after_by
 run_setting p [] = refl
-run_setting p (c ∷ cs) = run_setting _ cs ∙ same_setting_lem p (outcome (plain_look p) c).effect
+run_setting p (c ∷ cs) = run_setting (plain_change p (outcome (plain_look p) c).effect) cs ∙ same_setting_lem p (outcome (plain_look p) c).effect
 
 -- ---- what is known of a number is asked for in its slot
 
@@ -152,7 +152,7 @@ gone_change x c dropping g = (g.0, λ h. absurd (true_not_false h refl))
 gone_run : (x : Receiver) (c : ℕ) (cs : List Call) → Gone x c → Gone (reached x cs) c
 unfolding reach_by after_by
 gone_run x c [] g = g
-gone_run x c (k ∷ cs) g = gone_run _ c cs (gone_change x c (outcome (look x) k).effect g)
+gone_run x c (k ∷ cs) g = gone_run (change x (outcome (look x) k).effect) c cs (gone_change x c (outcome (look x) k).effect g)
 
 not_held : (x : Receiver) (c slot : ℕ) (b : Bool) → eqb slot 0 ≡ b → Gone x c → Holds x slot c → ⊥
 unfolding look

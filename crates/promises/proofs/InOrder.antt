@@ -186,6 +186,7 @@ Same before after = ((c : ℕ) → size_at c after ≡ size_at c before) × AllF
 quiet_same : (p : Plain) (e : Effect) → Quiet e → Ordered p → Same (keys_of p) (keys_of (plain_change p e))
 unfolding keys_of plain_change down
 quiet_same p stay q O = ((λ c. refl), O.full)
+quiet_same p (marking slot n) q O = elim q [ ]
 quiet_same p (turning iv) q O = ((λ c. size_turn c iv (p.now ∷ p.past)), (refl, O.full))
 quiet_same p dropping q O = ((λ c. refl), O.full)
 

@@ -226,10 +226,10 @@ module _ {K : Type 0} (C : Cipher K) (sendKey receiveKey : ℕ → K) (t : Setti
   -- from any world of a run on
   pub sealed_from : (w : World) → Sane t w → (steps : List Step) → Each (HonestCall C sendKey receiveKey) w steps → Each (HandsSealed t) w steps
   sealed_from w S [] H = tt
-  sealed_from w S (build app random out ∷ rest) H = sealed_from _ (step_sane t w (build app random out) S) rest H
-  sealed_from w S (turn iv ∷ rest) H = sealed_from _ (step_sane t w (turn iv) S) rest H
-  sealed_from w S (seal i ∷ rest) H = sealed_from _ (step_sane t w (seal i) S) rest H
-  sealed_from w S (receive c ∷ rest) H = (call_sealed w S c H.0, sealed_from _ (step_sane t w (receive c) S) rest H.1)
+  sealed_from w S (build app random out ∷ rest) H = sealed_from (next w (build app random out)) (step_sane t w (build app random out) S) rest H
+  sealed_from w S (turn iv ∷ rest) H = sealed_from (next w (turn iv)) (step_sane t w (turn iv) S) rest H
+  sealed_from w S (seal i ∷ rest) H = sealed_from (next w (seal i)) (step_sane t w (seal i) S) rest H
+  sealed_from w S (receive c ∷ rest) H = (call_sealed w S c H.0, sealed_from (next w (receive c)) (step_sane t w (receive c) S) rest H.1)
 
 -- ---- from the opens
 
@@ -254,11 +254,11 @@ handed_calls : (t : Setting) (w : World) (steps : List Step)
     → handed_in t w steps ≡ all_handed t (calls_of steps) (answers_of w.receiver (calls_of steps))
 unfolding handed_in calls_of all_handed answers_by after_by next answer_to state_after
 handed_calls t w [] = refl
-handed_calls t w (build app random out ∷ rest) = handed_calls t _ rest
-handed_calls t w (turn iv ∷ rest) = handed_calls t _ rest
-handed_calls t w (seal i ∷ rest) = handed_calls t _ rest
+handed_calls t w (build app random out ∷ rest) = handed_calls t (next w (build app random out)) rest
+handed_calls t w (turn iv ∷ rest) = handed_calls t (next w (turn iv)) rest
+handed_calls t w (seal i ∷ rest) = handed_calls t (next w (seal i)) rest
 handed_calls t w (receive c ∷ rest) =
-    ap (λ (l : List Item). handed_by t c (outcome (look w.receiver) c).answer ++ l) (handed_calls t _ rest)
+    ap (λ (l : List Item). handed_by t c (outcome (look w.receiver) c).answer ++ l) (handed_calls t (next w (receive c)) rest)
 
 -- nothing is handed out twice, whatever the cipher is and whoever sends
 pub handed_in_once : (s : Setting) (iv : List ℕ) (t : Setting) (iw : List ℕ) (steps : List Step)

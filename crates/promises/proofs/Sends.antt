@@ -148,8 +148,9 @@ run_of : (k : ℕ) (s : Sender) (cs : List Send) → Run k s.next (used_by sendi
 unfolding used_by sending
 run_of k s [] = run_nil k s.next
 run_of k s (build app random out ∷ cs) =
-    build_run k s _ _ (builds s (length app) (length random) (length out)) (run_of k _ cs)
-run_of k s (turn_key iv ∷ cs) = turn_run k s iv _ _ (turns s iv) (run_of _ _ cs)
+    build_run k s _ _ (builds s (length app) (length random) (length out)) (run_of k (build_of s (length app) (length random) (length out)).next cs)
+run_of k s (turn_key iv ∷ cs) = turn_run k s iv _ _ (turns s iv)
+    (run_of (cond (eqb (change_sender s iv).answer 0) (k + 1) k) (change_sender s iv).next cs)
 run_of k s (failed ∷ cs) = run_of k s cs
 
 open_next : (s : Setting) (iv : List ℕ) → ((open_sender s iv).next.next ≡ 0) × ((open_sender s iv).next.count ≡ 0)

@@ -144,7 +144,7 @@ simulate r p [] R = refl
 simulate r p (c ∷ cs) R =
     let s = step_related r p c R in
     let same = s.0 in
-    let rest = simulate _ _ cs s.1 in
+    let rest = simulate (after_by look outcome change r c) (after_by plain_look outcome plain_change p c) cs s.1 in
     λ i. (same i).answer ∷ rest i
 
 pub related_new : (s : Setting) (iv : List ℕ) → bad_setting s ≡ false → Related (new_receiver s iv) (new_plain s iv)

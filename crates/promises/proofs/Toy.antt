@@ -177,9 +177,9 @@ call_met s w drop_old h = tt
 pub run_met : (s : Setting) (w : World) (steps : List Step) → T (run_test s w steps) → Each (HonestCall (toy s) key_of key_of) w steps
 unfolding run_test
 run_met s w [] h = tt
-run_met s w (build app random out ∷ rest) h = run_met s _ rest h
-run_met s w (turn iv ∷ rest) h = run_met s _ rest h
-run_met s w (seal i ∷ rest) h = run_met s _ rest h
+run_met s w (build app random out ∷ rest) h = run_met s (next w (build app random out)) rest h
+run_met s w (turn iv ∷ rest) h = run_met s (next w (turn iv)) rest h
+run_met s w (seal i ∷ rest) h = run_met s (next w (seal i)) rest h
 run_met s w (receive c ∷ rest) h =
     let p = both_true (call_test s w c) _ h in
-    (call_met s w c p.0, run_met s _ rest p.1)
+    (call_met s w c p.0, run_met s (next w (receive c)) rest p.1)
