@@ -270,7 +270,7 @@ goes_on_run p (c ∷ cs) k O =
 ordered_run : (p : Plain) (cs : List Call) → Ordered p → Ordered (plain_reached p cs)
 unfolding reach_by after_by plain_reached
 ordered_run p [] O = O
-ordered_run p (c ∷ cs) O = ordered_run _ cs (ordered_after p c O)
+ordered_run p (c ∷ cs) O = ordered_run (plain_change p (outcome (plain_look p) c).effect) cs (ordered_after p c O)
 
 ordered_new : (s : Setting) (iv : List ℕ) → has_partial s ≡ false → Ordered (new_plain s iv)
 unfolding keys_of down

@@ -1,5 +1,3 @@
--- `split_at` meets its contract.
--- Assumes nothing.
 use Prim.Native.Nat.{ℕ, ◌%◌}
 use mathlib.Core.List.{List}
 use mathlib.Core.Path.{◌≡◌, refl, sym, ap, ◌∙◌}
@@ -9,30 +7,16 @@ use mathlib.Core.Bool.{Bool}
 use Rattle.answers.specs.Table.{differ}
 use Rattle.rows.specs.Ends.{receiver_of, sender_of, is_split, ends_of}
 use Rattle.controller.proofs.Scanning.{words_within, words_beyond}
-use Rattle.controller.proofs.table.split_at.Statement.{statement}
-use Rattle.controller.proofs.table.split_at.Tie as tie
+use Rattle.controller.proofs.table.split_at.Goals as goal
 
-returns : tie.Need-returns
+pub returns-then-at-table : goal.returns-then-at-table
 unfolding receiver_of sender_of is_split
-returns c =
-    let a = c.before.before.before.args in
+returns-then-at-table c =
+    let a = c.args in
     ap (λ (w : List ℕ). differ (get_or w 1 0 % 4294967296) (get_or w 20 0 % 4294967296)) (words_within a.table.now a.at (search rules))
 
-returns-2 : tie.Need-returns-2
+pub returns : goal.returns
 unfolding receiver_of sender_of is_split
-returns-2 c =
-    let a = c.before.args in
+returns c =
+    let a = c.args in
     ap (λ (w : List ℕ). is_split (ends_of w)) (sym (words_beyond a.table.now a.at (search rules)))
-
-pub split_at_spec : {M : Type 1} → statement M
-split_at_spec =
-    tie.close
-    (tie.spec
-    (λ c. search rules)
-    (λ c. search rules)
-    (λ c. search rules)
-    (λ c. search rules)
-    (λ c. search rules)
-    (λ c. search rules)
-    returns
-    returns-2)

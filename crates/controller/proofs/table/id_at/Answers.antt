@@ -1,5 +1,3 @@
--- `id_at` meets its contract.
--- Assumes nothing.
 use Prim.Native.Nat.{ℕ, ◌%◌}
 use mathlib.Core.List.{List}
 use mathlib.Core.Path.{◌≡◌, refl, sym, ap, ◌∙◌}
@@ -7,20 +5,16 @@ use lib.ListN.{get_or}
 use borrow.Author.Rules.{rules}
 use Rattle.rows.specs.Ends.{receiver_of, id_of, ends_of}
 use Rattle.controller.proofs.Scanning.{words_within, words_beyond}
-use Rattle.controller.proofs.table.id_at.Statement.{statement}
-use Rattle.controller.proofs.table.id_at.Tie as tie
+use Rattle.controller.proofs.table.id_at.Goals as goal
 
-returns : tie.Need-returns
+pub returns-then-at-table : goal.returns-then-at-table
 unfolding receiver_of
-returns c =
-    let a = c.before.before.args in
+returns-then-at-table c =
+    let a = c.args in
     ap (λ (w : List ℕ). get_or w 1 0 % 4294967296) (words_within a.table.now a.at (search rules))
 
-returns-2 : tie.Need-returns-2
+pub returns : goal.returns
 unfolding receiver_of
-returns-2 c =
-    let a = c.before.args in
+returns c =
+    let a = c.args in
     ap (λ (w : List ℕ). id_of (ends_of w)) (sym (words_beyond a.table.now a.at (search rules)))
-
-pub id_at_spec : {M : Type 1} → statement M
-id_at_spec = tie.close (tie.spec (λ c. search rules) (λ c. search rules) (λ c. search rules) (λ c. search rules) returns returns-2)
