@@ -22,7 +22,7 @@ module _ {S : Type 0} (looks : S → View) (decides : View → Call → Outcome)
       → reach_by looks decides changes s (xs ++ ys) ≡ reach_by looks decides changes (reach_by looks decides changes s xs) ys
   unfolding reach_by
   reach_join s [] ys = refl
-  reach_join s (x ∷ xs) ys = reach_join _ xs ys
+  reach_join s (x ∷ xs) ys = reach_join (after_by looks decides changes s x) xs ys
 
   pub answers_join : (s : S) (xs ys : List Call) → answers_by looks decides changes s (xs ++ ys)
       ≡ answers_by looks decides changes s xs ++ answers_by looks decides changes (reach_by looks decides changes s xs) ys
@@ -33,7 +33,7 @@ module _ {S : Type 0} (looks : S → View) (decides : View → Call → Outcome)
 pub sent_join : (s : Sender) (xs ys : List Send) → sender_after s (xs ++ ys) ≡ sender_after (sender_after s xs) ys
 unfolding sent_by
 sent_join s [] ys = refl
-sent_join s (x ∷ xs) ys = sent_join _ xs ys
+sent_join s (x ∷ xs) ys = sent_join (sending s x).next xs ys
 
 pub replies_join : (s : Sender) (xs ys : List Send) → replies_of s (xs ++ ys) ≡ replies_of s xs ++ replies_of (sender_after s xs) ys
 unfolding sent_by replies_of

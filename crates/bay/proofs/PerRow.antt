@@ -1,8 +1,9 @@
 -- Demand 3 read per row, from open to close: each theorem of a channel's run, of the calls that reach the row.
 -- Assumes nothing.
-use Prim.Native.Nat.{ℕ}
+use Prim.Native.Nat.{ℕ, ◌+◌}
 use mathlib.Core.Path.{◌≡◌, refl, sym, ap, ◌∙◌}
-use mathlib.Core.Bool.{Bool, true}
+use mathlib.Core.Bool.{Bool, true, cond}
+use lib.Dec.{eqb}
 use mathlib.Core.List.{List, [], ◌∷◌, ◌++◌, map}
 use lib.ListN.{length}
 use Rattle.answers.specs.Refusal.{authentic}
@@ -38,7 +39,7 @@ used_read : (k : ℕ) (s : Sender) (cs : List Send) → used_by k (replies_of s 
 unfolding used_by replies_of reply_of Sends.used_by sending
 used_read k s [] = refl
 used_read k s (build app random out ∷ cs) = rw (used_read k (sending s (build app random out)).next cs)
-used_read k s (turn_key iv ∷ cs) = used_read _ (sending s (turn_key iv)).next cs
+used_read k s (turn_key iv ∷ cs) = used_read (cond (eqb (sending s (turn_key iv)).code 0) (k + 1) k) (sending s (turn_key iv)).next cs
 used_read k s (failed ∷ cs) = used_read k s cs
 
 -- ---- T1 to T3
