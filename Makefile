@@ -46,9 +46,8 @@ help:
 	@echo 'make clean     forget what was built'
 
 test:
-	rt fmt --check
 	$(MAKE) --no-print-directory host
-	rt ci
+	tools/gate.sh
 
 # A bay of sixteen boards, with real records. It takes a few seconds under an emulator.
 demo: archive
@@ -88,7 +87,9 @@ setup:
 	tools/setup.sh
 
 archive: setup
-	rt staticlib husk
+	cd crates/husk && rt lib
+	mkdir -p $(dir $(ARCHIVE))
+	cp crates/husk/out/libhusk.a $(ARCHIVE)
 
 # The archive for the processor that this machine has.
 own: archive

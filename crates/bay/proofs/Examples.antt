@@ -23,7 +23,6 @@ use Rattle.controller.specs.Doors.{place, door_rows, new_rows}
 use Rattle.controller.specs.Calls.{open_in, close_in, receive_in, table_after}
 use Rattle.bay.specs.Reach.{code_in}
 use Rattle.bay.specs.TableRun.{empty_table}
-use Rattle.bay.specs.RowRun.{opened}
 use Rattle.bay.specs.Peer.{Foreign, HonestCallIn}
 use Rattle.bay.specs.Examples.{elsewhere, MetInRow, codes_in, reopened, HandedAgain, sealed_earlier, OldKeys}
 use Rattle.bay.proofs.Fresh.{honest_in}

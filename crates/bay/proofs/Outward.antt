@@ -7,7 +7,7 @@ use mathlib.Core.List.{List, [], ◌∷◌, ◌++◌}
 use Rattle.record.specs.declared.setting.Setting.{Setting}
 use Rattle.channel.specs.Sender.{open_sender}
 use Rattle.promises.specs.SendRun.{Send, sender_after}
-use Rattle.promises.specs.World.{Step, next, start, Each, HandsSealed, sends_of, world_after, Cipher}
+use Rattle.promises.specs.World.{Step, start, Each, HandsSealed, sends_of, world_after, Cipher}
 use Rattle.promises.proofs.Demands as Base
 use Rattle.rows.specs.Ends.{Ends}
 use Rattle.controller.specs.Table.{row_at}

@@ -25,7 +25,6 @@ use Rattle.channel.specs.declared.delivery.Settled.{Settled}
 use Rattle.channel.specs.declared.receiver.Counted.{Counted}
 use Rattle.channel.specs.View.{Face, count_at, number_at, no_key}
 use Rattle.channel.specs.Call.{Call, offer, settle, only, marking}
-use Rattle.channel.specs.Call as Call
 use Rattle.channel.specs.Rules.{state_rows, slot_rows, offer_rows, cipher_rows, marking_rows, rows, granted, effect_of}
 use Rattle.channel.specs.Receiver.{bad_receiver, look, change, answer_to, state_after, offered, settled, counted, changed, offer_of, settle_of, gaps_of}
 use Rattle.channel.specs.Receiver.{key_of}

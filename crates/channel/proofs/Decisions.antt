@@ -1,10 +1,9 @@
 -- Each call of a sender and a receiver answers k exactly where k's reason of page 01 holds and none before it does, and 0 exactly where
 -- none holds.
 -- Assumes nothing.
-use Prim.Native.Nat.{ℕ, ◌<◌}
+use Prim.Native.Nat.{ℕ}
 use mathlib.Core.List.{List}
-use mathlib.Core.Logic.{◌⊎◌}
-use mathlib.Core.Path.{◌≡◌, refl, sym}
+use mathlib.Core.Path.{refl, sym}
 use Rattle.answers.specs.Table.{first}
 use Rattle.answers.specs.Reasons.{Tells, Told, Decided}
 use Rattle.answers.proofs.Reasons.{told_row, told_join, decided}

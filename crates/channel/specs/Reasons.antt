@@ -8,7 +8,6 @@ use Rattle.numbers.specs.Reasons.{Unsound, number_reasons}
 use Rattle.record.specs.Setting.{rule_of}
 use Rattle.record.specs.Shape.{plain_len}
 use Rattle.record.specs.Reasons.{BadSetting, TooLong, record_reasons, form_reasons, room_reasons}
-use Rattle.channel.specs.declared.key.Key.{Key}
 use Rattle.channel.specs.declared.receiver.Receiver.{Receiver}
 use Rattle.channel.specs.declared.sender.Sender.{Sender}
 use Rattle.channel.specs.Key.{last_count, zero_key}

@@ -1,17 +1,17 @@
 -- The receiver of a row that was reached is asked, and put back where it changed.
 -- Assumes nothing.
-use Prim.Native.Nat.{ℕ, zero, suc}
-use mathlib.Core.Bool.{Bool, true, false, not, cond, ◌&&◌, ◌||◌}
-use mathlib.Core.List.{List, [], ◌∷◌, map}
+use Prim.Native.Nat.{ℕ}
+use mathlib.Core.Bool.{Bool, true, false, not, ◌&&◌, ◌||◌}
+use mathlib.Core.List.{List}
 use mathlib.Core.Path.{◌≡◌, refl, sym, ap, ◌∙◌}
 use lib.Dec.{T, eqb}
-use lib.ListN.{length, get_or, set}
+use lib.ListN.{set}
 use lib.Seq.{set-get_or}
-use borrow.Author.Tests.{eqb-true, eqb-false, eq-eqb, ne_eqb}
+use borrow.Author.Tests.{eqb-true, eqb-false, ne_eqb}
 use Rattle.answers.specs.Refusal as Refusal
 use Rattle.answers.specs.Refusal.{authentic, marks}
-use Rattle.answers.specs.Table.{first, given}
-use Rattle.answers.proofs.Given.{given_ok, given_no, why_is, ok_is}
+use Rattle.answers.specs.Table.{first}
+use Rattle.answers.proofs.Given.{given_ok, given_no}
 use Rattle.answers.proofs.Table.{unmarking, first_unmarking}
 use Rattle.answers.proofs.Tests.{by_cases, or_neither}
 use Rattle.channel.specs.Call.{Call, change_key, drop_old, Answer, only}
@@ -21,11 +21,9 @@ use Rattle.channel.specs.declared.receiver.Receiver.{Receiver}
 use Rattle.channel.proofs.Outcome.{code_of, answer_no, after_no}
 use Rattle.rows.specs.Ends.{Ends, free_ends, receiver_of, ends_of, with_receiver, put_receiver}
 use Rattle.controller.specs.declared.door.Reached.{Reached}
-use Rattle.controller.specs.Table.{row_at}
-use Rattle.controller.specs.Doors.{Door, session, number, place, door_rows}
+use Rattle.controller.specs.Doors.{Door, place, door_rows}
 use Rattle.controller.specs.Calls.{receive, row_to, receive_in, table_after}
-use Rattle.controller.specs.Words.{no_row, reached_in, rows_of, words_at, receive_words}
-use Rattle.controller.proofs.Scanning.{row_at_lem}
+use Rattle.controller.specs.Words.{reached_in, rows_of, words_at, receive_words}
 use Rattle.controller.proofs.Reaching.{rows_set, door_unmarking, door_why, door_found, ends_found}
 
 -- what answers neither 0 nor a refusal that marks keeps the receiver

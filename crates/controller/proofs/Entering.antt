@@ -4,29 +4,25 @@ use Prim.Native.Nat.{ℕ}
 use mathlib.Core.Bool.{true, false, not}
 use mathlib.Core.List.{List, [], ◌∷◌}
 use mathlib.Core.Path.{◌≡◌, refl, sym, ap, ◌∙◌}
-use lib.Dec.{T, eqb}
-use lib.ListN.{length, set}
+use lib.ListN.{set}
 use borrow.Author.Tests.{eqb-false, ne_eqb}
 use Rattle.answers.specs.Refusal as Refusal
-use Rattle.answers.specs.Table.{Check, first, given}
-use Rattle.answers.proofs.Given.{given_ok, given_no, why_is, ok_is}
-use Rattle.answers.proofs.Table.{numbered, first_past, first_stop}
+use Rattle.answers.specs.Table.{Check, first}
+use Rattle.answers.proofs.Given.{given_ok, why_is}
+use Rattle.answers.proofs.Table.{first_past, first_stop}
 use Rattle.channel.specs.Receiver.{new_receiver, zero_receiver, open_receiver}
 use Rattle.channel.specs.Sender.{new_sender, zero_sender, open_sender}
-use Rattle.channel.specs.declared.receiver.Receiver.{Receiver}
 use Rattle.channel.specs.declared.receiver.ReceiverStep.{ReceiverStep}
-use Rattle.channel.specs.declared.sender.Sender.{Sender}
 use Rattle.channel.specs.declared.sender.SenderStep.{SenderStep}
 use Rattle.record.specs.Setting.{open_rows}
 use Rattle.record.specs.declared.setting.Setting.{Setting}
-use Rattle.rows.specs.Ends.{Ends, free_ends, is_free, ends_of, put_receiver, put_sender}
+use Rattle.rows.specs.Ends.{Ends, is_free, ends_of, put_receiver, put_sender}
 use Rattle.rows.proofs.Laws.{zeros_free}
 use Rattle.controller.specs.declared.door.Reached.{Reached}
 use Rattle.controller.specs.Table.{some, lowest, has, clashes}
 use Rattle.controller.specs.Doors.{number, place, door_rows, new_rows}
 use Rattle.controller.specs.Calls.{enter, leave, open_in, close_in, table_after}
 use Rattle.controller.specs.Words.{no_words, reached_in, rows_of, enter_words, leave_words}
-use Rattle.controller.proofs.Scanning.{same_length, none_found}
 use Rattle.controller.proofs.Reaching.{rows_set, door_why, door_found}
 
 -- ---- what the channel's own open found

@@ -2,7 +2,6 @@
 -- Assumes nothing.
 use Prim.Native.Nat.{ℕ}
 use mathlib.Core.List.{List}
-use mathlib.Core.Path.{◌≡◌, ap}
 use Rattle.answers.proofs.OneAnswer.{OneAnswer, one}
 use Rattle.controller.proofs.opening.open.Reads as open_row
 use Rattle.controller.proofs.opening.close.Reads as close_row

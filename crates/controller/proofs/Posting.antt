@@ -3,11 +3,10 @@
 use Prim.Native.Nat.{ℕ}
 use mathlib.Core.List.{List}
 use mathlib.Core.Path.{◌≡◌, refl, sym, ap, ◌∙◌}
-use lib.Dec.{eqb}
 use lib.ListN.{length, set}
 use lib.Seq.{set-get_or}
 use borrow.Author.Tests.{eq-eqb, ne_eqb}
-use Rattle.answers.specs.Table.{first, given}
+use Rattle.answers.specs.Table.{first}
 use Rattle.answers.proofs.Given.{given_ok, given_no, why_is}
 use Rattle.channel.specs.Sender.{no_build, built, build_rows, build_of, build_out, turn_to, change_rows, change_sender}
 use Rattle.octets.specs.Parts.{over}

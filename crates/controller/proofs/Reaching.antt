@@ -1,7 +1,7 @@
 -- A call on its way to a row: what each test on the way makes of it.
 -- Assumes nothing.
 use Prim.Native.Nat.{ℕ, zero, suc}
-use mathlib.Core.Bool.{Bool, true, false, not}
+use mathlib.Core.Bool.{true, false}
 use mathlib.Core.List.{List, [], ◌∷◌}
 use mathlib.Core.Path.{◌≡◌, refl, sym, ap, ◌∙◌}
 use lib.Dec.{T, ltb, eqb}
@@ -13,7 +13,7 @@ use Rattle.answers.proofs.Given.{why_is, ok_is}
 use Rattle.answers.proofs.Table.{unmarking}
 use Rattle.rows.specs.Ends.{Ends, is_free, ends_of}
 use Rattle.controller.specs.declared.door.Reached.{Reached}
-use Rattle.controller.specs.Table.{row_at, some, lowest, has, clashes}
+use Rattle.controller.specs.Table.{some, lowest, has, clashes}
 use Rattle.record.specs.Shape.{shortest}
 use Rattle.controller.specs.Doors.{Door, session, number, id_in, place, door_rows}
 use Rattle.controller.specs.Calls.{row_to}

@@ -1,20 +1,18 @@
 -- Where the Session IDs of the open rows rise, no two are shared.
 -- Assumes nothing.
 use Prim.Native.Nat.{ℕ, ◌+◌, ◌≤◌, ◌<◌}
-use mathlib.Core.Bool.{Bool, true, false, not, cond, ◌&&◌, ◌||◌, and-false}
+use mathlib.Core.Bool.{Bool, true, false, not, cond, ◌&&◌, ◌||◌}
 use mathlib.Core.List.{List, [], ◌∷◌}
 use mathlib.Core.Path.{◌≡◌, refl, sym, ap, ◌∙◌}
-use native.Mathlib.Numerals.{add-one}
 use native.Mathlib.Omega.{arith}
-use lib.Dec.{eqb, ltb}
+use lib.Dec.{ltb}
 use lib.ListN.{length, drop}
-use lib.Seq.{drop-cons}
 use borrow.Author.Tests.{ltb-false, ne_eqb}
 use Rattle.answers.proofs.Tests.{or_neither, true_not_false}
-use Rattle.rows.specs.Ends.{Ends, free_ends, is_free, is_open, is_split, id_of, ends_of}
-use Rattle.controller.specs.Table.{row_at, some, has, clashes, rises}
+use Rattle.rows.specs.Ends.{Ends, is_free, is_open, is_split, id_of, ends_of}
+use Rattle.controller.specs.Table.{some, has, clashes, rises}
 use Rattle.controller.specs.Words.{rows_of, words_at}
-use Rattle.controller.proofs.Scanning.{row_at_lem, same_length, drop_row, drop_end}
+use Rattle.controller.proofs.Scanning.{drop_row, drop_end}
 
 -- no row has a Session ID below n, and no rows clash
 abbrev pub Apart : ℕ → List Ends → Type 0

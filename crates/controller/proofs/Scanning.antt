@@ -2,14 +2,14 @@
 -- Assumes nothing.
 use Prim.Native.Nat.{ℕ, zero, suc, ◌+◌, ◌≤◌, ◌<◌}
 use mathlib.Core.Bool.{Bool, true, false, not, cond, ◌&&◌, ◌||◌, or_assoc}
-use mathlib.Core.List.{List, [], ◌∷◌, map}
+use mathlib.Core.List.{List, [], ◌∷◌}
 use mathlib.Core.Path.{◌≡◌, refl, sym, ap, ◌∙◌}
 use native.Mathlib.Numerals.{add-one}
 use native.Mathlib.Omega.{arith}
 use lib.Dec.{eqb, eqb-zero-suc, eqb-suc-suc}
-use lib.ListN.{length, get_or, set, drop, length-map, get_or-map, drop_of_length-le}
+use lib.ListN.{length, get_or, drop, length-map, get_or-map, drop_of_length-le}
 use lib.Seq.{drop-cons}
-use Rattle.rows.specs.Ends.{Ends, free_ends, is_free, is_open, is_split, id_of, ends_of}
+use Rattle.rows.specs.Ends.{Ends, free_ends, is_open, is_split, id_of, ends_of}
 use Rattle.rows.proofs.Laws.{zeros_free}
 use Rattle.controller.specs.Table.{row_at, some, lowest, has, clashes}
 use Rattle.controller.specs.Words.{rows_of, words_at, no_words}

@@ -1,6 +1,6 @@
 -- How a call reaches a row: by a record's Session ID, or by the row's number; and what is refused before the row is asked.
 -- Assumes nothing.
-use Rattle.std.specs.Prelude.{ℕ, Bool, not, List, [], ◌∷◌, ◌++◌, ltb, length}
+use Rattle.std.specs.Prelude.{ℕ, not, List, [], ◌∷◌, ◌++◌, ltb, length}
 use Rattle.answers.specs.Refusal as Refusal
 use Rattle.answers.specs.Table.{Check}
 use Rattle.octets.specs.Fields.{field}

@@ -8,7 +8,6 @@ use Rattle.channel.specs.Receiver.{new_receiver, state_after}
 use Rattle.channel.specs.Sender.{new_sender, change_sender}
 use Rattle.record.specs.declared.setting.Setting.{Setting}
 use Rattle.rows.specs.Ends.{row_words, Ends, is_free, ends_of, put_receiver, put_sender}
-use Rattle.rows.specs.declared.row.Row.{Row}
 use Rattle.controller.specs.declared.door.Reached.{Reached}
 use Rattle.controller.specs.Table.{row_at, lowest}
 use Rattle.controller.specs.Doors.{Door, number, place, door_rows, new_rows}

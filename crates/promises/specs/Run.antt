@@ -3,7 +3,6 @@
 -- Assumes nothing.
 use Rattle.std.specs.Prelude.{ℕ, cond, List, [], ◌∷◌, ◌++◌, eqb}
 use Rattle.answers.specs.Refusal.{authentic}
-use Rattle.answers.specs.Refusal as Refusal
 use Rattle.channel.specs.Call.{Call, offer, settle, gaps, change_key, drop_old, Answer, Effect, Outcome}
 use Rattle.channel.specs.Receiver.{look, change}
 use Rattle.channel.specs.Rules.{outcome}

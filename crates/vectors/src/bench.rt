@@ -1,9 +1,10 @@
 // One offer settled twice on the test bench's cable (request h).
 use crate::{print, records};
 use channel::{Receiver, Sender};
+use std::io;
 
 // Settles the offer of record 0 twice, under a limit of `limit`.
-fn twice(name: &[u8], limit: u64) {
+fn twice(rt: &impl Print, name: &str, limit: u64) -> io::Result<()> {
     let mut setting = records::on_the_bench(0);
     setting.limit = limit;
     let mut rec = [0u8; 25];
@@ -16,19 +17,19 @@ fn twice(name: &[u8], limit: u64) {
     let second = first
         .next
         .settle(&rec, 0, offered.count, offered.number, true, b"");
-    print::text(name);
-    print::text(b": settle ");
-    print::number(first.answer as u64);
-    print::text(b", again ");
-    print::number(second.answer as u64);
-    print::text(b", ");
-    print::number(first.length);
-    print::text(b" bytes from ");
-    print::number(first.place);
-    print::text(b"\n");
+    print::text(rt, name)?;
+    print::text(rt, ": settle ")?;
+    print::number(rt, first.answer as u64)?;
+    print::text(rt, ", again ")?;
+    print::number(rt, second.answer as u64)?;
+    print::text(rt, ", ")?;
+    print::number(rt, first.length)?;
+    print::text(rt, " bytes from ")?;
+    print::number(rt, first.place)?;
+    print::text(rt, "\n")
 }
 
-pub(crate) fn settled_twice() {
-    twice(b"bench, one offer", 2);
-    twice(b"bench, one offer at the limit", 1);
+pub(crate) fn settled_twice(rt: &impl Print) -> io::Result<()> {
+    twice(rt, "bench, one offer", 2)?;
+    twice(rt, "bench, one offer at the limit", 1)
 }

@@ -8,16 +8,18 @@ mod sizes;
 mod widths;
 mod wrapping;
 
-fn main() {
-    records::both_modes();
-    records::both_modes_on_the_bench();
-    records::nonce();
-    sizes::largest();
-    sizes::largest_with_8();
-    sizes::largest_with_12();
-    sizes::smallest();
-    bench::settled_twice();
-    widths::late_by_150();
-    wrapping::inner();
-    wrapping::outer();
+use std::io;
+
+fn main(rt: HostRuntime) -> io::Result<()> {
+    records::both_modes(&rt)?;
+    records::both_modes_on_the_bench(&rt)?;
+    records::nonce(&rt)?;
+    sizes::largest(&rt)?;
+    sizes::largest_with_8(&rt)?;
+    sizes::largest_with_12(&rt)?;
+    sizes::smallest(&rt)?;
+    bench::settled_twice(&rt)?;
+    widths::late_by_150(&rt)?;
+    wrapping::inner(&rt)?;
+    wrapping::outer(&rt)
 }

@@ -1,26 +1,26 @@
 // Parts of a line on standard output.
-const OUT: i32 = 1;
+use std::io;
 
-pub(crate) fn text(s: &[u8]) {
-    io::write_all(OUT, s);
+pub(crate) fn text(rt: &impl Print, s: &str) -> io::Result<()> {
+    print!(rt; "{s}")
 }
 
-pub(crate) fn number(n: u64) {
-    io::print_decimal(OUT, n);
+pub(crate) fn number(rt: &impl Print, n: u64) -> io::Result<()> {
+    print!(rt; "{n}")
 }
 
 // Each byte as two digits, with a space before it.
-pub(crate) fn bytes(s: &[u8]) {
-    for i in 0..s.len() {
-        io::write_all(OUT, b" ");
-        io::print_hex(OUT, s[i] as u64, 2);
+pub(crate) fn bytes(rt: &impl Print, s: &[u8]) -> io::Result<()> {
+    for b in s {
+        print!(rt; " {b:02x}")?;
     }
+    Ok(())
 }
 
 // A name, an answer and the end of the line.
-pub(crate) fn answer(name: &[u8], k: u8) {
-    text(name);
-    text(b": ");
-    number(k as u64);
-    text(b"\n");
+pub(crate) fn answer(rt: &impl Print, name: &str, k: u8) -> io::Result<()> {
+    text(rt, name)?;
+    text(rt, ": ")?;
+    number(rt, k as u64)?;
+    text(rt, "\n")
 }

@@ -1,6 +1,7 @@
 // A record that is late by 150 at each width of the window (request f).
 use crate::{print, records};
 use channel::{Receiver, Sender};
+use std::io;
 
 // Builds the record of this number.
 fn build(number: u64, out: &mut [u8]) {
@@ -20,27 +21,27 @@ fn after_999(width: u16) -> Receiver {
 }
 
 // Offers number 850, settles it and offers it again.
-fn twice(name: &[u8], r: Receiver, rec: &[u8]) {
+fn twice(rt: &impl Print, name: &str, r: Receiver, rec: &[u8]) -> io::Result<()> {
     let first = r.offer(rec, 0);
     let r = r.settle(rec, 0, 0, 850, true, b"").next;
     let second = r.offer(rec, 0);
-    print::text(name);
-    print::text(b", late by 150: offer ");
-    print::number(first.answer as u64);
-    print::text(b", settled and again ");
-    print::number(second.answer as u64);
-    print::text(b"\n");
+    print::text(rt, name)?;
+    print::text(rt, ", late by 150: offer ")?;
+    print::number(rt, first.answer as u64)?;
+    print::text(rt, ", settled and again ")?;
+    print::number(rt, second.answer as u64)?;
+    print::text(rt, "\n")
 }
 
-fn late(name: &[u8], width: u16) {
+fn late(rt: &impl Print, name: &str, width: u16) -> io::Result<()> {
     let mut rec = [0u8; 27];
     build(850, &mut rec);
-    twice(name, after_999(width), &rec);
+    twice(rt, name, after_999(width), &rec)
 }
 
-pub(crate) fn late_by_150() {
-    late(b"width 64", 64);
-    late(b"width 128", 128);
-    late(b"width 192", 192);
-    late(b"width 256", 256);
+pub(crate) fn late_by_150(rt: &impl Print) -> io::Result<()> {
+    late(rt, "width 64", 64)?;
+    late(rt, "width 128", 128)?;
+    late(rt, "width 192", 192)?;
+    late(rt, "width 256", 256)
 }

@@ -1,6 +1,4 @@
-use mathlib.Core.Bool.{true, false}
-use mathlib.Core.Path.{◌≡◌, sym, ◌∙◌}
-use borrow.Author.Rules.{rules}
+use mathlib.Core.Path.{sym, ◌∙◌}
 use Rattle.controller.proofs.Reaching.{number_clash, number_unknown, number_found}
 use Rattle.controller.proofs.door.by_number.Goals as goal
 

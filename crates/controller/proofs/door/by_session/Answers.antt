@@ -1,15 +1,6 @@
 use borrow.Author.Tests.{lt-ltb, le-ltb, eq-eqb, ne_eqb}
-use Prim.Native.Nat.{ℕ}
-use mathlib.Core.Bool.{true, false}
-use mathlib.Core.Path.{◌≡◌, sym, ap, ◌∙◌}
-use lib.Dec.{ltb}
-use lib.ListN.{length}
-use borrow.Author.Rules.{rules}
+use mathlib.Core.Path.{sym, ◌∙◌}
 use Rattle.record.specs.Shape.{shortest}
-use Rattle.controller.specs.Table.{lowest, has}
-use Rattle.controller.specs.Doors.{id_in}
-use Rattle.controller.specs.Words.{rows_of}
-use Rattle.controller.specs.declared.door.Reached.{Reached}
 use Rattle.controller.proofs.Reaching.{session_clash, session_short, session_unknown, session_found}
 use Rattle.controller.proofs.door.by_session.Goals as goal
 

@@ -1,7 +1,4 @@
-use Prim.Native.Nat.{ℕ}
-use mathlib.Core.List.{List}
-use mathlib.Core.Path.{◌≡◌, ap, ◌∙◌}
-use borrow.Author.Rules.{rules}
+use mathlib.Core.Path.{ap, ◌∙◌}
 use Rattle.controller.specs.Words.{rows_of}
 use Rattle.controller.proofs.Entering.{close_refused, close_frees}
 use Rattle.controller.proofs.opening.close.Goals as goal

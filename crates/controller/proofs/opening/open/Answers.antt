@@ -1,21 +1,18 @@
-use Prim.Native.Nat.{ℕ, ◌≤◌, ◌<◌}
-use mathlib.Core.Bool.{true, false, not}
+use Prim.Native.Nat.{ℕ, ◌≤◌}
+use mathlib.Core.Bool.{false, not}
 use mathlib.Core.List.{List}
 use mathlib.Core.Path.{◌≡◌, sym, ap, ◌∙◌}
 use native.Mathlib.Omega.{arith}
 use lib.Dec.{eqb}
 use lib.ListN.{length}
-use mir.Syntax.{w8}
-use mir.Val.{Fits}
 use borrow.Author.Rules.{rules}
 use borrow.Author.Tests.{not-true, not-false, eq-eqb, ne_eqb}
 use Rattle.answers.specs.Table.{first}
-use Rattle.channel.specs.Receiver.{new_receiver}
 use Rattle.channel.specs.Sender.{new_sender}
 use Rattle.record.specs.Setting.{open_rows}
-use Rattle.rows.specs.Ends.{Ends, is_free, ends_of, with_sender, put_receiver, put_sender}
+use Rattle.rows.specs.Ends.{Ends, is_free, with_sender, put_receiver, put_sender}
 use Rattle.channel.specs.declared.receiver.Receiver.{Receiver}
-use Rattle.controller.specs.Table.{some, lowest, has, clashes}
+use Rattle.controller.specs.Table.{some, has, clashes}
 use Rattle.controller.specs.Words.{no_words, rows_of}
 use Rattle.controller.proofs.Scanning.{same_length, none_at, found_within}
 use Rattle.controller.proofs.Entering.{setting_why, receiver_opened, sender_opened, open_clash, open_setting, open_twice, open_full, open_new}

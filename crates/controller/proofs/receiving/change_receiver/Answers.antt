@@ -1,9 +1,7 @@
 use Prim.Native.Nat.{ℕ}
 use mathlib.Core.List.{List}
 use mathlib.Core.Path.{◌≡◌, ap, sym, ◌∙◌}
-use borrow.Author.Rules.{rules}
 use Rattle.channel.specs.Call.{Call, Answer}
-use Rattle.channel.specs.Call as Call
 use Rattle.channel.specs.Receiver.{changed, answer_to, state_after}
 use Rattle.channel.specs.declared.receiver.Receiver.{Receiver}
 use Rattle.channel.specs.declared.receiver.ReceiverStep.{ReceiverStep}

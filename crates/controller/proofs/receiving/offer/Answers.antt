@@ -1,5 +1,4 @@
-use mathlib.Core.Path.{◌≡◌, ap, ◌∙◌}
-use borrow.Author.Rules.{rules}
+use mathlib.Core.Path.{ap, ◌∙◌}
 use Rattle.channel.specs.Receiver.{offered}
 use Rattle.channel.specs.Call as Call
 use Rattle.controller.specs.Doors.{session}

@@ -1,10 +1,8 @@
 use Prim.Native.Nat.{ℕ}
 use mathlib.Core.List.{List}
 use mathlib.Core.Path.{◌≡◌, ap, sym, ◌∙◌}
-use borrow.Author.Rules.{rules}
 use borrow.Author.Tests.{not-true, not-false}
 use Rattle.channel.specs.Call.{Call}
-use Rattle.channel.specs.Call as Call
 use Rattle.channel.specs.Receiver.{settled, answer_to, state_after}
 use Rattle.channel.specs.declared.delivery.Settled.{Settled}
 use Rattle.channel.specs.declared.receiver.Receiver.{Receiver}
@@ -13,7 +11,6 @@ use Rattle.controller.specs.Answers.{taken}
 use Rattle.controller.specs.Doors.{Door, session}
 use Rattle.controller.specs.Words.{rows_of}
 use Rattle.controller.specs.declared.door.Reached.{Reached}
-use Rattle.controller.specs.declared.receiving.Taken.{Taken}
 use Rattle.controller.proofs.Asking.{untouched, refused_way, row_answers, row_refuses, changed, settles_not}
 use Rattle.controller.proofs.receiving.settle.Goals as goal
 

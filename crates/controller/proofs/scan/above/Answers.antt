@@ -1,5 +1,4 @@
 use mathlib.Core.Path.{refl}
-use borrow.Author.Rules.{rules}
 use Rattle.controller.proofs.scan.above.Goals as goal
 
 pub returns-then-free : goal.returns-then-free

@@ -1,5 +1,4 @@
-use mathlib.Core.Path.{◌≡◌, sym, ◌∙◌}
-use borrow.Author.Rules.{rules}
+use mathlib.Core.Path.{sym, ◌∙◌}
 use Rattle.controller.proofs.Rising.{rises_apart}
 use Rattle.controller.proofs.scan.clash.Goals as goal
 

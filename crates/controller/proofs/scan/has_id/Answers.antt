@@ -1,7 +1,6 @@
 use mathlib.Core.Bool.{false, and-false, and-true, true}
 use mathlib.Core.Path.{◌≡◌, refl}
 use lib.Dec.{eqb}
-use borrow.Author.Rules.{rules}
 use borrow.Author.Tests.{eq-eqb, ne_eqb}
 use Rattle.controller.specs.Table.{has}
 use Rattle.rows.specs.Ends.{id_of, ends_of}

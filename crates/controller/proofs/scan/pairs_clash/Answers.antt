@@ -1,10 +1,6 @@
-use Prim.Native.Nat.{◌-◌}
 use mathlib.Core.Bool.{true, false}
-use mathlib.Core.Path.{◌≡◌, refl, sym, ◌∙◌}
-use lib.ListN.{length, drop}
+use mathlib.Core.Path.{◌≡◌, sym, ◌∙◌}
 use borrow.Author.Rules.{rules}
-use Rattle.controller.specs.Table.{clashes}
-use Rattle.controller.specs.Words.{rows_of}
 use Rattle.controller.proofs.Scanning.{clash_here, clash_here_lem, clash_missed, clash_none}
 use Rattle.controller.proofs.scan.pairs_clash.Goals as goal
 

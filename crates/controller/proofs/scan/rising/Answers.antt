@@ -1,10 +1,10 @@
-use Prim.Native.Nat.{ℕ, ◌+◌, ◌-◌}
+use Prim.Native.Nat.{ℕ, ◌+◌}
 use mathlib.Core.Bool.{true, false, ◌&&◌, ◌||◌}
-use mathlib.Core.Path.{◌≡◌, refl, sym, ap, ◌∙◌}
+use mathlib.Core.Path.{◌≡◌, sym, ap, ◌∙◌}
 use lib.Dec.{ltb}
-use lib.ListN.{length, drop}
+use lib.ListN.{drop}
 use borrow.Author.Rules.{rules}
-use Rattle.rows.specs.Ends.{Ends, is_free, is_open, is_split, id_of, ends_of}
+use Rattle.rows.specs.Ends.{Ends, is_open, is_split, id_of, ends_of}
 use Rattle.controller.specs.Table.{rises}
 use Rattle.controller.specs.Words.{rows_of, words_at}
 use Rattle.controller.proofs.Rising.{rises_stop, rises_step, rises_end}

@@ -1,13 +1,11 @@
-use Prim.Native.Nat.{◌+◌, ◌-◌, ◌≤◌}
 use mathlib.Core.Bool.{true, false}
-use mathlib.Core.Path.{◌≡◌, sym, ap, ◌∙◌}
+use mathlib.Core.Path.{◌≡◌, sym}
 use native.Mathlib.Nat.{zero-add}
 use native.Mathlib.Omega.{arith}
-use lib.ListN.{length, drop}
 use borrow.Author.Rules.{rules}
 use Rattle.rows.specs.Ends.{ends_of}
-use Rattle.controller.specs.Table.{lowest, has}
-use Rattle.controller.specs.Words.{rows_of, words_at}
+use Rattle.controller.specs.Table.{has}
+use Rattle.controller.specs.Words.{words_at}
 use Rattle.controller.proofs.Scanning.{lowest_found, lowest_missed, lowest_none}
 use Rattle.controller.proofs.scan.seat.Goals as goal
 

@@ -1,11 +1,9 @@
-use Prim.Native.Nat.{◌-◌}
 use mathlib.Core.Bool.{true, false}
-use mathlib.Core.Path.{◌≡◌, refl, sym, ◌∙◌}
-use lib.ListN.{length, drop}
+use mathlib.Core.Path.{◌≡◌, sym, ◌∙◌}
 use borrow.Author.Rules.{rules}
 use Rattle.rows.specs.Ends.{ends_of}
-use Rattle.controller.specs.Table.{some, has}
-use Rattle.controller.specs.Words.{rows_of, words_at}
+use Rattle.controller.specs.Table.{has}
+use Rattle.controller.specs.Words.{words_at}
 use Rattle.controller.proofs.Scanning.{some_here, some_missed, some_none}
 use Rattle.controller.proofs.scan.shared.Goals as goal
 

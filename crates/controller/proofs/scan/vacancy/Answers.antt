@@ -1,13 +1,10 @@
-use Prim.Native.Nat.{◌+◌, ◌-◌, ◌≤◌}
 use mathlib.Core.Bool.{true, false}
-use mathlib.Core.Path.{◌≡◌, sym, ap, ◌∙◌}
+use mathlib.Core.Path.{◌≡◌, sym}
 use native.Mathlib.Nat.{zero-add}
 use native.Mathlib.Omega.{arith}
-use lib.ListN.{length, drop}
 use borrow.Author.Rules.{rules}
 use Rattle.rows.specs.Ends.{ends_of, is_free}
-use Rattle.controller.specs.Table.{lowest}
-use Rattle.controller.specs.Words.{rows_of, words_at}
+use Rattle.controller.specs.Words.{words_at}
 use Rattle.controller.proofs.Scanning.{lowest_found, lowest_missed, lowest_none}
 use Rattle.controller.proofs.scan.vacancy.Goals as goal
 

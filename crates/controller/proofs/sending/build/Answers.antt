@@ -1,5 +1,4 @@
-use mathlib.Core.Path.{◌≡◌, ap, ◌∙◌}
-use borrow.Author.Rules.{rules}
+use mathlib.Core.Path.{ap, ◌∙◌}
 use Rattle.controller.specs.Words.{rows_of}
 use Rattle.controller.proofs.Posting.{build_shut, build_refuses, build_changes}
 use Rattle.controller.proofs.sending.build.Goals as goal

@@ -1,5 +1,4 @@
-use mathlib.Core.Path.{◌≡◌, ap, ◌∙◌}
-use borrow.Author.Rules.{rules}
+use mathlib.Core.Path.{ap, ◌∙◌}
 use Rattle.controller.specs.Words.{rows_of}
 use Rattle.controller.proofs.Posting.{turn_shut, turn_refuses, turn_changes}
 use Rattle.controller.proofs.sending.change_sender.Goals as goal

@@ -1,10 +1,10 @@
-use Prim.Native.Nat.{ℕ, ◌%◌}
+use Prim.Native.Nat.{ℕ}
 use mathlib.Core.List.{List, []}
-use mathlib.Core.Path.{◌≡◌, refl, sym, ap, ◌∙◌}
+use mathlib.Core.Path.{◌≡◌, sym, ap, ◌∙◌}
 use lib.ListN.{get_or}
 use borrow.Author.Rules.{rules}
 use borrow.Author.Tests.{ne_eqb}
-use Rattle.rows.specs.Ends.{receiver_of, is_free, ends_of}
+use Rattle.rows.specs.Ends.{receiver_of, ends_of}
 use Rattle.rows.proofs.Laws.{limit_not_free}
 use Rattle.controller.specs.Words.{words_at}
 use Rattle.controller.proofs.Scanning.{words_within}

@@ -1,6 +1,6 @@
 use Prim.Native.Nat.{ℕ, ◌%◌}
 use mathlib.Core.List.{List}
-use mathlib.Core.Path.{◌≡◌, refl, sym, ap, ◌∙◌}
+use mathlib.Core.Path.{sym, ap}
 use lib.ListN.{get_or}
 use borrow.Author.Rules.{rules}
 use Rattle.rows.specs.Ends.{receiver_of, id_of, ends_of}

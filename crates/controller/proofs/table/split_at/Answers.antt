@@ -1,9 +1,8 @@
 use Prim.Native.Nat.{ℕ, ◌%◌}
 use mathlib.Core.List.{List}
-use mathlib.Core.Path.{◌≡◌, refl, sym, ap, ◌∙◌}
+use mathlib.Core.Path.{sym, ap}
 use lib.ListN.{get_or}
 use borrow.Author.Rules.{rules}
-use mathlib.Core.Bool.{Bool}
 use Rattle.answers.specs.Table.{differ}
 use Rattle.rows.specs.Ends.{receiver_of, sender_of, is_split, ends_of}
 use Rattle.controller.proofs.Scanning.{words_within, words_beyond}

@@ -1,7 +1,6 @@
 use borrow.Author.Tests.{eq-eqb, ne_eqb}
 use mathlib.Core.Path.{◌∙◌}
 use Rattle.mctp.specs.Application.{unwrap_rows, read_data}
-use borrow.Author.Rules.{rules}
 use Rattle.mctp.proofs.application.read_data.Goals as goal
 
 pub returns-then-app-eq0 : goal.returns-then-app-eq0

@@ -5,7 +5,6 @@ use borrow.Author.Tests.{ltb-false}
 use Rattle.answers.proofs.Tests.{or_neither}
 use Rattle.mctp.specs.Led.{writes}
 use Rattle.mctp.specs.Application.{wrap_rows}
-use borrow.Author.Rules.{rules}
 use Rattle.mctp.proofs.application.wrap_data.Goals as goal
 
 pub returns-then-wrapped : goal.returns-then-wrapped

@@ -1,5 +1,4 @@
 use Rattle.mctp.proofs.Parts.{behind_no, behind_empty, behind_all}
-use borrow.Author.Rules.{rules}
 use Rattle.mctp.proofs.led.behind.Goals as goal
 
 pub returns-then-answer-ne0 : goal.returns-then-answer-ne0

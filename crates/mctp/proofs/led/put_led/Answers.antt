@@ -1,9 +1,5 @@
 use borrow.Author.Tests.{le-leb, lt-leb}
-use mathlib.Core.Path.{◌∙◌}
-use lib.ListN.{length, length-set}
-use native.Mathlib.Omega.{arith}
 use Rattle.mctp.proofs.Parts.{led_short, led_fits}
-use borrow.Author.Rules.{rules}
 use Rattle.mctp.proofs.led.put_led.Goals as goal
 
 pub returns-then-short : goal.returns-then-short

@@ -1,6 +1,5 @@
 use borrow.Author.Tests.{eq-eqb, ne_eqb}
 use Rattle.mctp.specs.Message.{frame_rows}
-use borrow.Author.Rules.{rules}
 use Rattle.mctp.proofs.message.read_message.Goals as goal
 
 pub returns-then-message-eq0 : goal.returns-then-message-eq0

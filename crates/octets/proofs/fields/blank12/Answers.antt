@@ -1,6 +1,5 @@
 use Rattle.octets.specs.Fields.{blank}
 use mathlib.Core.Path.{refl}
-use borrow.Author.Rules.{rules}
 use Rattle.octets.proofs.fields.blank12.Goals as goal
 
 pub returns : goal.returns

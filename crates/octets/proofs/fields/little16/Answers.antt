@@ -1,7 +1,6 @@
 use Rattle.octets.proofs.Puts.{field_past, field_two}
 use mathlib.Core.Path.{sym}
 use native.Mathlib.Omega.{arith}
-use borrow.Author.Rules.{rules}
 use Rattle.octets.proofs.fields.little16.Goals as goal
 
 pub returns-then-s-at : goal.returns-then-s-at

@@ -2,7 +2,6 @@ use Prim.Native.Nat.{◌+◌}
 use Rattle.octets.proofs.Puts.{past, field_past, field_two, field_four}
 use mathlib.Core.Path.{sym}
 use native.Mathlib.Omega.{arith}
-use borrow.Author.Rules.{rules}
 use Rattle.octets.proofs.fields.little32.Goals as goal
 
 pub returns-then-s-at : goal.returns-then-s-at

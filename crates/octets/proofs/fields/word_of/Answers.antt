@@ -1,6 +1,5 @@
 use Rattle.octets.specs.Fields.{field}
 use native.Mathlib.Omega.{arith}
-use borrow.Author.Rules.{rules}
 use Rattle.octets.proofs.fields.word_of.Goals as goal
 
 pub returns : goal.returns

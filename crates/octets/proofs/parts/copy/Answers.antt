@@ -1,6 +1,5 @@
 use native.Mathlib.Omega.{arith}
 use native.Mathlib.Numerals.{add-one}
-use mathlib.Core.Path.{◌∙◌}
 use lib.Seq.{paste-suc}
 use Rattle.octets.proofs.parts.copy.Goals as goal
 

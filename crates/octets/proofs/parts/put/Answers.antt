@@ -1,7 +1,6 @@
 use Rattle.octets.proofs.Puts.{put_fits, put_not}
 use mathlib.Core.Path.{◌∙◌}
 use native.Mathlib.Omega.{arith}
-use borrow.Author.Rules.{rules}
 use Rattle.octets.proofs.parts.put.Goals as goal
 
 pub returns-then-out-at : goal.returns-then-out-at

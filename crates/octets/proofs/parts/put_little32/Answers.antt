@@ -5,7 +5,6 @@ use Rattle.octets.proofs.Puts.{put_fits, put_not}
 use Rattle.octets.specs.Fields.{little}
 use mathlib.Core.Path.{◌∙◌}
 use native.Mathlib.Omega.{arith}
-use borrow.Author.Rules.{rules}
 use Rattle.octets.proofs.parts.put_little32.Goals as goal
 
 pub returns-then-out-lt4 : goal.returns-then-out-lt4

@@ -1,6 +1,5 @@
 use mathlib.Core.Path.{sym, ◌∙◌}
 use Rattle.record.specs.Header.{length_at}
-use borrow.Author.Rules.{rules}
 use Rattle.record.proofs.header.length_at.Goals as goal
 
 pub returns-then-partial : goal.returns-then-partial

@@ -1,6 +1,5 @@
 use mathlib.Core.Path.{◌∙◌}
 use Rattle.record.specs.Header.{length_of}
-use borrow.Author.Rules.{rules}
 use Rattle.record.proofs.header.length_of.Goals as goal
 
 pub returns : goal.returns

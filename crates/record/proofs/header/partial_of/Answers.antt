@@ -1,5 +1,4 @@
 use Rattle.record.specs.Header.{partial_of}
-use borrow.Author.Rules.{rules}
 use Rattle.record.proofs.header.partial_of.Goals as goal
 
 pub returns : goal.returns

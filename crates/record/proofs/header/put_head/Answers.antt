@@ -3,7 +3,6 @@ use Rattle.record.proofs.Heads.{partial_length, bare_length}
 use Rattle.record.proofs.Writes.{head_written, bare_written}
 use native.Mathlib.Omega.{arith}
 use mathlib.Core.Path.{sym, ◌∙◌}
-use borrow.Author.Rules.{rules}
 use Rattle.record.proofs.header.put_head.Goals as goal
 
 pub returns-then-partial : goal.returns-then-partial

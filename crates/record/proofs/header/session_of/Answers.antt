@@ -1,5 +1,4 @@
 use Rattle.record.specs.Header.{session_of}
-use borrow.Author.Rules.{rules}
 use Rattle.record.proofs.header.session_of.Goals as goal
 
 pub returns : goal.returns

@@ -3,7 +3,6 @@ use mathlib.Core.List.{List, ◌++◌, reverse}
 use mathlib.Core.Path.{ap}
 use lib.ListN.{get_or}
 use Rattle.record.specs.Nonce.{each}
-use borrow.Author.Rules.{rules}
 use Rattle.record.proofs.nonces.last.Goals as goal
 
 pub returns : goal.returns

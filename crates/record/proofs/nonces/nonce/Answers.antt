@@ -1,6 +1,5 @@
 use mathlib.Core.Path.{◌∙◌, sym}
 use Rattle.record.specs.Nonce.{nonce_of, spread}
-use borrow.Author.Rules.{rules}
 use Rattle.record.proofs.nonces.nonce.Goals as goal
 
 pub returns-then-front : goal.returns-then-front

@@ -2,7 +2,6 @@ use Rattle.numbers.specs.Contract.{judged, placed}
 use Rattle.record.specs.Header.{number_of}
 use Rattle.record.specs.Read.{place_rows, place_of}
 use mathlib.Core.Path.{sym, ◌∙◌}
-use borrow.Author.Rules.{rules}
 use Rattle.record.proofs.reader.place.Goals as goal
 
 pub returns-then-partial : goal.returns-then-partial

@@ -1,6 +1,5 @@
 use Rattle.record.specs.Shape.{assoc_end}
 use mathlib.Core.Path.{sym, ◌∙◌}
-use borrow.Author.Rules.{rules}
 use Rattle.record.proofs.shape.assoc_end.Goals as goal
 
 pub returns-then-clear : goal.returns-then-clear

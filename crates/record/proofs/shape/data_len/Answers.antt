@@ -1,6 +1,5 @@
 use Rattle.record.specs.Shape.{inner_len, data_len}
 use mathlib.Core.Path.{sym, ◌∙◌}
-use borrow.Author.Rules.{rules}
 use Rattle.record.proofs.shape.data_len.Goals as goal
 
 pub returns-then-clear : goal.returns-then-clear

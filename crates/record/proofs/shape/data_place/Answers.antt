@@ -1,6 +1,5 @@
 use Rattle.record.specs.Shape.{data_place}
 use mathlib.Core.Path.{sym, ◌∙◌}
-use borrow.Author.Rules.{rules}
 use Rattle.record.proofs.shape.data_place.Goals as goal
 
 pub returns-then-clear : goal.returns-then-clear

@@ -1,6 +1,5 @@
 use mathlib.Core.Path.{sym, ◌∙◌}
 use Rattle.record.specs.Shape.{head_len}
-use borrow.Author.Rules.{rules}
 use Rattle.record.proofs.shape.head_len.Goals as goal
 
 pub returns-then-partial : goal.returns-then-partial

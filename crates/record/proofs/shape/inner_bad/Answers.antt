@@ -1,5 +1,4 @@
 use Rattle.record.specs.Shape.{inner_bad}
-use borrow.Author.Rules.{rules}
 use Rattle.record.proofs.shape.inner_bad.Goals as goal
 
 pub returns : goal.returns

@@ -2,7 +2,6 @@ use Rattle.record.specs.Shape.{least}
 use Rattle.record.proofs.Forms.{small}
 use native.Mathlib.Omega.{arith}
 use mathlib.Core.Path.{sym, ◌∙◌}
-use borrow.Author.Rules.{rules}
 use Rattle.record.proofs.shape.least.Goals as goal
 
 pub returns-then-clear : goal.returns-then-clear

@@ -1,5 +1,4 @@
 use native.Mathlib.Omega.{arith}
-use borrow.Author.Rules.{rules}
 use Rattle.record.specs.Shape.{mac_len}
 use Rattle.record.proofs.shape.mac_len.Goals as goal
 

@@ -1,5 +1,4 @@
 use Rattle.record.specs.Shape.{start_of}
-use borrow.Author.Rules.{rules}
 use Rattle.record.proofs.shape.start_of.Goals as goal
 
 pub returns : goal.returns

@@ -1,6 +1,5 @@
 use Rattle.record.specs.Shape.{text_end}
 use mathlib.Core.Path.{◌∙◌}
-use borrow.Author.Rules.{rules}
 use Rattle.record.proofs.shape.text_end.Goals as goal
 
 pub returns : goal.returns

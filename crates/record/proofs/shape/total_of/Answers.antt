@@ -1,7 +1,6 @@
 use Rattle.record.proofs.Forms.{small}
 use Rattle.record.specs.Shape.{total_of}
 use native.Mathlib.Omega.{arith}
-use borrow.Author.Rules.{rules}
 use Rattle.record.proofs.shape.total_of.Goals as goal
 
 pub overflow_add-result : goal.overflow_add-result

@@ -1,7 +1,6 @@
 use Rattle.record.specs.View.{view_of}
 use borrow.Author.Tests.{eq-eqb, ne_eqb}
 use mathlib.Core.Path.{◌∙◌}
-use borrow.Author.Rules.{rules}
 use Rattle.record.proofs.views.view.Goals as goal
 
 pub returns-then-mode-eq0 : goal.returns-then-mode-eq0

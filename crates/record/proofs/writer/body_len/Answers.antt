@@ -2,7 +2,6 @@ use Rattle.record.proofs.Forms.{small}
 use Rattle.record.specs.Write.{body_len}
 use native.Mathlib.Omega.{arith}
 use mathlib.Core.Path.{sym, ◌∙◌}
-use borrow.Author.Rules.{rules}
 use Rattle.record.proofs.writer.body_len.Goals as goal
 
 pub returns-then-clear : goal.returns-then-clear

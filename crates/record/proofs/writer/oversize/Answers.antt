@@ -6,7 +6,6 @@ use borrow.Author.Tests.{lt-ltb}
 use Prim.Native.Nat.{◌+◌, ◌<◌}
 use native.Mathlib.Omega.{arith}
 use mathlib.Core.Path.{sym, ◌∙◌}
-use borrow.Author.Rules.{rules}
 use Rattle.record.proofs.writer.oversize.Goals as goal
 
 pub returns-then-most-p : goal.returns-then-most-p

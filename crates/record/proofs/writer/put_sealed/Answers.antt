@@ -4,7 +4,6 @@ use Rattle.octets.specs.Fields.{little}
 use Rattle.record.specs.Shape.{head_len, inner_len}
 use native.Mathlib.Omega.{arith}
 use lib.ListN.{length}
-use borrow.Author.Rules.{rules}
 use Rattle.record.proofs.writer.put_sealed.Goals as goal
 
 pub returns : goal.returns

@@ -1,5 +1,4 @@
 use Rattle.channel.specs.Key.{is_zero_key}
-use borrow.Author.Rules.{rules}
 use Rattle.rows.proofs.ends.blank_key.Goals as goal
 
 pub returns : goal.returns

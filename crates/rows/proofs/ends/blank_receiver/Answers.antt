@@ -1,5 +1,4 @@
 use Rattle.channel.specs.Receiver.{is_zero_receiver}
-use borrow.Author.Rules.{rules}
 use Rattle.rows.proofs.ends.blank_receiver.Goals as goal
 
 pub returns : goal.returns

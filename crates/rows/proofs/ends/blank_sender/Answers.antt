@@ -1,5 +1,4 @@
 use Rattle.channel.specs.Sender.{is_zero_sender}
-use borrow.Author.Rules.{rules}
 use Rattle.rows.proofs.ends.blank_sender.Goals as goal
 
 pub returns : goal.returns

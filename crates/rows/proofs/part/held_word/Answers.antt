@@ -2,7 +2,6 @@ use mathlib.Core.Bool.{Bool, true, false}
 use mathlib.Core.Path.{◌≡◌, refl}
 use mir.Val.{bool_byte}
 use Rattle.rows.specs.Part.{held_of, held_word}
-use borrow.Author.Rules.{rules}
 use Rattle.rows.proofs.part.held_word.Goals as goal
 
 -- a bool as a number is its word

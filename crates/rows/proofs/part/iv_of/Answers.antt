@@ -1,5 +1,4 @@
 use Rattle.rows.proofs.Words.{iv_put}
-use borrow.Author.Rules.{rules}
 use Rattle.rows.proofs.part.iv_of.Goals as goal
 
 pub returns : goal.returns

@@ -1,4 +1,3 @@
-use borrow.Author.Rules.{rules}
 use Rattle.rows.proofs.part.key_of.Goals as goal
 
 pub returns : goal.returns

@@ -1,4 +1,3 @@
-use borrow.Author.Rules.{rules}
 use Rattle.channel.proofs.key.Key.fresh.Goals as goal
 
 pub returns : goal.returns

@@ -1,4 +1,3 @@
-use borrow.Author.Rules.{rules}
 use Rattle.channel.proofs.key.Key.marked.Goals as goal
 
 pub returns : goal.returns

@@ -1,7 +1,6 @@
 use borrow.Author.Tests.{ne_eqb}
 use Rattle.channel.specs.Receiver.{look}
 use native.Mathlib.Omega.{arith}
-use borrow.Author.Rules.{rules}
 use Rattle.channel.proofs.receiver.Receiver.count_at.Goals as goal
 
 pub returns-then-first : goal.returns-then-first

@@ -5,7 +5,6 @@ use Rattle.channel.specs.Receiver.{look, change}
 use Rattle.answers.specs.Refusal.{marks}
 use native.Mathlib.Omega.{arith}
 use mathlib.Core.Path.{sym, ◌∙◌, refl}
-use borrow.Author.Rules.{rules}
 use Rattle.channel.proofs.receiver.Receiver.drop.Goals as goal
 
 pub returns-then-bad : goal.returns-then-bad

@@ -1,7 +1,6 @@
 use Rattle.channel.proofs.Calls.{slot_bad, slot_none, slot_ok, gaps_no, gaps_ok}
 use native.Mathlib.Omega.{arith}
 use mathlib.Core.Path.{sym, ◌∙◌}
-use borrow.Author.Rules.{rules}
 use Rattle.channel.proofs.receiver.Receiver.gaps.Goals as goal
 
 pub returns-then-bad : goal.returns-then-bad

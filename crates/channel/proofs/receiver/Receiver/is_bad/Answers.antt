@@ -1,5 +1,4 @@
 use Rattle.channel.proofs.State.{bad_front, bad_held, bad_bare}
-use borrow.Author.Rules.{rules}
 use Rattle.channel.proofs.receiver.Receiver.is_bad.Goals as goal
 
 pub returns-then-is_bad-sound : goal.returns-then-is_bad-sound

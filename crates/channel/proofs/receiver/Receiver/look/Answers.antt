@@ -1,6 +1,5 @@
 use Rattle.channel.proofs.Look.{look_bad, look_none, look_read, look_place, look_ok}
 use mathlib.Core.Path.{sym, ◌∙◌}
-use borrow.Author.Rules.{rules}
 use Rattle.channel.proofs.receiver.Receiver.look.Goals as goal
 
 pub returns-then-bad : goal.returns-then-bad

@@ -1,6 +1,5 @@
 use borrow.Author.Tests.{ne_eqb}
 use Rattle.channel.specs.Receiver.{change}
-use borrow.Author.Rules.{rules}
 use Rattle.channel.proofs.receiver.Receiver.marked.Goals as goal
 
 pub returns-then-first : goal.returns-then-first

@@ -1,6 +1,5 @@
 use Rattle.channel.proofs.Calls.{offer_no, offer_ok}
 use mathlib.Core.Path.{◌∙◌}
-use borrow.Author.Rules.{rules}
 use Rattle.channel.proofs.receiver.Receiver.offer.Goals as goal
 
 pub returns-then-l-ne0 : goal.returns-then-l-ne0

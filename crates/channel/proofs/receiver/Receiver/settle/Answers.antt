@@ -2,7 +2,6 @@ use borrow.Author.Tests.{eq-eqb, ne_eqb}
 use Rattle.channel.proofs.Calls.{settle_look, settle_stale, settle_plain, settle_mac, settle_inner, settle_ok}
 use mathlib.Core.Bool.{not}
 use mathlib.Core.Path.{sym, ap, ◌∙◌}
-use borrow.Author.Rules.{rules}
 use Rattle.channel.proofs.receiver.Receiver.settle.Goals as goal
 
 pub returns-then-l-ne0 : goal.returns-then-l-ne0

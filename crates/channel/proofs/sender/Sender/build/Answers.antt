@@ -2,7 +2,6 @@ use borrow.Author.Tests.{eq-eqb, ne_eqb, lt-ltb, le-ltb}
 use Rattle.channel.proofs.Build.{below_limit, build_no, row_bad, row_spent, row_form, row_room, build_ok, out_ok}
 use native.Mathlib.Omega.{arith}
 use mathlib.Core.Path.{sym, ◌∙◌}
-use borrow.Author.Rules.{rules}
 use Rattle.channel.proofs.sender.Sender.build.Goals as goal
 
 pub returns-then-bad : goal.returns-then-bad

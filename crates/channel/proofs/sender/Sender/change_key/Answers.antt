@@ -1,8 +1,6 @@
 use borrow.Author.Tests.{ne_eqb}
-use native.Mathlib.Omega.{arith}
 use Rattle.channel.specs.Sender.{sender_rows, change_rows, change_sender}
 use mathlib.Core.Path.{sym, ◌∙◌}
-use borrow.Author.Rules.{rules}
 use Rattle.channel.proofs.sender.Sender.change_key.Goals as goal
 
 pub returns-then-bad : goal.returns-then-bad

@@ -1,5 +1,4 @@
 use Rattle.channel.specs.Sender.{bad_sender}
-use borrow.Author.Rules.{rules}
 use Rattle.channel.proofs.sender.Sender.is_bad.Goals as goal
 
 pub returns : goal.returns

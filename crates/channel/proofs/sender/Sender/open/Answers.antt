@@ -1,6 +1,5 @@
 use Rattle.record.specs.Setting.{open_rows}
 use mathlib.Core.Path.{sym, ◌∙◌}
-use borrow.Author.Rules.{rules}
 use Rattle.channel.proofs.sender.Sender.open.Goals as goal
 
 pub returns-then-bad : goal.returns-then-bad

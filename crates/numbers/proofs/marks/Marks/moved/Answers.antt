@@ -1,5 +1,4 @@
 use Rattle.numbers.proofs.Word.{moved_by_both}
-use borrow.Author.Rules.{rules}
 use Rattle.numbers.proofs.marks.Marks.moved.Goals as goal
 
 pub returns : goal.returns

@@ -1,5 +1,4 @@
 use Rattle.numbers.proofs.Calls.{empty_test}
-use borrow.Author.Rules.{rules}
 use Rattle.numbers.proofs.window.Window.is_empty.Goals as goal
 
 pub returns : goal.returns

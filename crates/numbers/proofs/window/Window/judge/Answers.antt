@@ -1,5 +1,4 @@
 use Rattle.numbers.proofs.Calls.{judged_spent, judged_ahead, judged_old, judged_repeat, judged_new}
-use borrow.Author.Rules.{rules}
 use Rattle.numbers.proofs.window.Window.judge.Goals as goal
 
 pub returns-then-limit-n : goal.returns-then-limit-n

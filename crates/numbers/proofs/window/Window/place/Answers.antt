@@ -1,11 +1,8 @@
 use Rattle.numbers.proofs.Calls.{placed_spent, placed_at}
 use Rattle.numbers.proofs.Step.{below_is, above_is}
 use Rattle.numbers.specs.Step.{up, down}
-use mathlib.Core.Path.{◌≡◌}
 use mathlib.Core.Logic.{inl, inr}
-use Prim.Native.Nat.{◌+◌}
 use native.Mathlib.Omega.{arith}
-use Rattle.numbers.specs.Number.{nearest}
 use Rattle.numbers.proofs.window.Window.place.Goals as goal
 use Rattle.numbers.proofs.window.Window.place.Goals.{then-down-up+else-not-negative, else-down-up}
 

@@ -1,6 +1,5 @@
 use Rattle.record.specs.Setting.{window_width}
 use mathlib.Core.Path.{refl}
-use borrow.Author.Rules.{rules}
 use Rattle.record.proofs.setting.Setting.rule.Goals as goal
 
 pub returns : goal.returns

@@ -5,7 +5,6 @@ use borrow.Author.Tests.{ltb-false}
 use Prim.Native.Nat.{◌≤◌}
 use native.Mathlib.Omega.{arith}
 use mathlib.Core.Path.{sym, ◌∙◌}
-use borrow.Author.Rules.{rules}
 use Rattle.record.proofs.writer.Form.plan.Goals as goal
 
 pub returns-then-padded : goal.returns-then-padded

@@ -2,7 +2,6 @@ use mathlib.Core.Path.{sym}
 use borrow.Author.Tests.{ne_eqb}
 use Rattle.rows.specs.Ends.{receiver_of, ends_of, is_free}
 use Rattle.rows.proofs.Laws.{limit_not_free}
-use borrow.Author.Rules.{rules}
 use Rattle.rows.proofs.row.Row.is_free.Goals as goal
 
 pub returns-then-w-ne0 : goal.returns-then-w-ne0

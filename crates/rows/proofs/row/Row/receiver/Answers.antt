@@ -1,5 +1,4 @@
 use Rattle.rows.specs.Ends.{receiver_of}
-use borrow.Author.Rules.{rules}
 use Rattle.rows.proofs.row.Row.receiver.Goals as goal
 
 pub returns : goal.returns

@@ -1,5 +1,4 @@
 use Rattle.rows.specs.Ends.{sender_of}
-use borrow.Author.Rules.{rules}
 use Rattle.rows.proofs.row.Row.sender.Goals as goal
 
 pub returns : goal.returns
