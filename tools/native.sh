@@ -1,10 +1,10 @@
 #!/bin/sh
 # Makes target/native/libhusk.a, the proved functions compiled for an AArch64 machine, so that there the
 # host's programs run by themselves, are timed and are watched by valgrind. It takes the LLVM module that
-# `rt staticlib husk` hands to the kit's clang and changes its target and how C passes large structs
+# `rt lib` in crates/husk hands to the kit's clang and changes its target and how C passes large structs
 # there: an answer by the register for results, an argument by the address of the caller's copy, and an IV
 # in two registers also where x86-64 has none left. Nothing of the gate uses it, and the archive to ship is
-# rt's own.
+# rt's own. It was written for the older kit: today's has no clang for AArch64, so it can't be tried with it.
 set -eu
 machine=aarch64
 [ "$(uname -m)" = $machine ] || { echo "only for an AArch64 machine: elsewhere use rt's archive" >&2; exit 2; }
@@ -26,7 +26,7 @@ for a in "\$@"; do case \$a in *.bc) cp "\$a" "$out/module.bc" ;; esac; done
 exec "$clang" "\$@"
 END
 chmod +x "$shadow/on/$machine/toolchain/bin/clang"
-RATTLE_HOME=$shadow rt staticlib husk > "$out/log"
+(cd crates/husk && RATTLE_HOME=$shadow rt lib) > "$out/log"
 
 "$clang" --target=x86_64-unknown-linux-gnu -S -emit-llvm -O0 -Xclang -disable-llvm-passes -x ir "$out/module.bc" -o "$out/module.ll"
 sed -E \
