@@ -23,7 +23,7 @@ endif
 CARGO_FLAGS := $(HOST) --target $(X86)
 
 # Soak, memcheck and bench want no emulator: times would say nothing, and valgrind can't look inside. On
-# AArch64 they take the same module compiled for that processor (tools/native.sh).
+# AArch64 they took the same module compiled for that processor (tools/native.sh), which today's kit can't make.
 OWN_FLAGS := $(HOST) --release --target $(MACHINE)-unknown-linux-gnu
 OWN_BIN := host/target/$(MACHINE)-unknown-linux-gnu/release
 VALGRIND := valgrind -q --error-exitcode=1

@@ -1,4 +1,4 @@
--- run_ends of the table that are computed.
+-- Runs of the table that are computed.
 -- Assumes nothing.
 use Rattle.std.specs.Prelude.{ℕ, ◌≡◌, true, List, [], ◌∷◌, replicate}
 use Rattle.answers.specs.Refusal as Refusal

@@ -1,4 +1,4 @@
--- run_ends of table calls, each given the table that the last one left.
+-- Runs of table calls, each given the table that the last one left.
 -- Assumes nothing.
 use Rattle.std.specs.Prelude.{ℕ, List, [], ◌∷◌, replicate}
 use Rattle.rows.specs.Ends.{Ends, free_ends}

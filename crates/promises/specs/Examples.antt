@@ -1,4 +1,4 @@
--- run_ends that are computed: under the assumptions of T4 data is handed out, and what is said of the bridge's records is exact.
+-- Runs that are computed: under the assumptions of T4 data is handed out, and what is said of the bridge's records is exact.
 -- Assumes nothing.
 use Rattle.std.specs.Prelude.{ℕ, ◌≡◌, true, false, List, [], ◌∷◌, map, length, replicate}
 use Rattle.answers.specs.Refusal as Refusal

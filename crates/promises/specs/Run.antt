@@ -1,4 +1,4 @@
--- run_ends of a receiver's calls, each given the state that the last one returned, and what a run marks and hands out. A run is over the
+-- Runs of a receiver's calls, each given the state that the last one returned, and what a run marks and hands out. A run is over the
 -- receiver's look, the table's outcome and the change as parameters: so a wrong one can be run, too.
 -- Assumes nothing.
 use Rattle.std.specs.Prelude.{ℕ, cond, List, [], ◌∷◌, ◌++◌, eqb}

@@ -1,4 +1,4 @@
--- run_ends of a sender, and the numbers that they use. A run is over what a call does as a parameter: so a wrong sender can be run, too.
+-- Runs of a sender, and the numbers that they use. A run is over what a call does as a parameter: so a wrong sender can be run, too.
 -- Assumes nothing.
 use Rattle.std.specs.Prelude.{ℕ, zero, suc, ◌+◌, cond, List, [], ◌∷◌, ◌++◌, eqb, length}
 use Rattle.channel.specs.Sender.{build_of, change_sender}
