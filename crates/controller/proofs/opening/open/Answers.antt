@@ -36,11 +36,10 @@ returns-then-twice c =
     let a = c.args in
     let w : List (List ℕ) = a.table.now in
     let sixteen : length w ≡ 16 = search rules in
-    let opened = c.open-receiver in
     let good : clashes (rows_of w) ≡ false = sym c.clash-bad.ensures ∙ c.if-bad.false in
-    let set-well : first (open_rows a.setting) ≡ 0 = setting_why a.setting a.iv opened.result opened.ensures ∙ c.if-receiver-ne0.false in
+    let set_well : first (open_rows a.setting) ≡ 0 = setting_why a.setting a.iv c.open-receiver.result c.open-receiver.ensures ∙ c.if-receiver-ne0.false in
     let taken : not (some (has a.setting.session) (rows_of w)) ≡ eqb c.seat-at.result 16 = none_at (has a.setting.session) w 16 c.seat-at.result sixteen c.seat-at.ensures in
-    let none = open_twice w a.setting a.iv a.iw good set-well (not-false _ (taken ∙ ne_eqb _ _ c.if-twice.true)) in
+    let none = open_twice w a.setting a.iv a.iw good set_well (not-false _ (taken ∙ ne_eqb _ _ c.if-twice.true)) in
     ((λ i. (c.refused-then-twice.ensures.0 i, c.refused-then-twice.ensures.1 i)) ∙ none.0, none.1, none.2)
 
 pub returns-then-full : goal.returns-then-full
@@ -48,12 +47,11 @@ returns-then-full c =
     let a = c.args in
     let w : List (List ℕ) = a.table.now in
     let sixteen : length w ≡ 16 = search rules in
-    let opened = c.open-receiver in
     let good : clashes (rows_of w) ≡ false = sym c.clash-bad.ensures ∙ c.if-bad.false in
-    let set-well : first (open_rows a.setting) ≡ 0 = setting_why a.setting a.iv opened.result opened.ensures ∙ c.if-receiver-ne0.false in
+    let set_well : first (open_rows a.setting) ≡ 0 = setting_why a.setting a.iv c.open-receiver.result c.open-receiver.ensures ∙ c.if-receiver-ne0.false in
     let taken : not (some (has a.setting.session) (rows_of w)) ≡ eqb c.seat-at.result 16 = none_at (has a.setting.session) w 16 c.seat-at.result sixteen c.seat-at.ensures in
     let once : some (has a.setting.session) (rows_of w) ≡ false = not-true _ (taken ∙ eq-eqb _ _ c.if-twice.false) in
-    let none = open_full w a.setting a.iv a.iw good set-well once (none_at is_free w 16 c.vacancy-free.result sixteen c.vacancy-free.ensures ∙ eq-eqb _ _ c.if-full.true) in
+    let none = open_full w a.setting a.iv a.iw good set_well once (none_at is_free w 16 c.vacancy-free.result sixteen c.vacancy-free.ensures ∙ eq-eqb _ _ c.if-full.true) in
     ((λ i. (c.refused-then-full.ensures.0 i, c.refused-then-full.ensures.1 i)) ∙ none.0, none.1, none.2)
 
 pub overflow_cast-result : goal.overflow_cast-result
@@ -68,18 +66,15 @@ returns c =
     let a = c.args in
     let w : List (List ℕ) = a.table.now in
     let sixteen : length w ≡ 16 = search rules in
-    let opened = c.open-receiver in
     let good : clashes (rows_of w) ≡ false = sym c.clash-bad.ensures ∙ c.if-bad.false in
-    let set-well : first (open_rows a.setting) ≡ 0 = setting_why a.setting a.iv opened.result opened.ensures ∙ c.if-receiver-ne0.false in
+    let set_well : first (open_rows a.setting) ≡ 0 = setting_why a.setting a.iv c.open-receiver.result c.open-receiver.ensures ∙ c.if-receiver-ne0.false in
     let taken : not (some (has a.setting.session) (rows_of w)) ≡ eqb c.seat-at.result 16 = none_at (has a.setting.session) w 16 c.seat-at.result sixteen c.seat-at.ensures in
     let once : some (has a.setting.session) (rows_of w) ≡ false = not-true _ (taken ∙ eq-eqb _ _ c.if-twice.false) in
     let room = none_at is_free w 16 c.vacancy-free.result sixteen c.vacancy-free.ensures ∙ ne_eqb _ _ c.if-full.false in
-    let receiver = receiver_opened a.setting a.iv opened.result opened.ensures set-well in
-    let sender = sender_opened a.setting a.iw c.open-sender.result c.open-sender.ensures set-well in
-    let half = c.with_receiver-half.ensures in
-    let whole = c.with_sender.ensures in
+    let receiver = receiver_opened a.setting a.iv c.open-receiver.result c.open-receiver.ensures set_well in
+    let sender = sender_opened a.setting a.iw c.open-sender.result c.open-sender.ensures set_well in
     let new =
-    open_new w a.setting a.iv a.iw good set-well once room c.vacancy-free.result c.vacancy-free.ensures c.with_sender.result.words
-    (whole.0 ∙ (λ i. put_sender (half.0 i) (sender i)) ∙ ap (λ (r : Receiver). put_sender (put_receiver no_words r) (new_sender a.setting a.iw)) receiver)
-    (whole.1 ∙ (λ i. with_sender (half.1 i) (sender i)) ∙ ap (λ (r : Receiver). record { receiver = r; sender = new_sender a.setting a.iw }) receiver) in
+    open_new w a.setting a.iv a.iw good set_well once room c.vacancy-free.result c.vacancy-free.ensures c.with_sender.result.words
+    (c.with_sender.ensures.0 ∙ (λ i. put_sender (c.with_receiver-half.ensures.0 i) (sender i)) ∙ ap (λ (r : Receiver). put_sender (put_receiver no_words r) (new_sender a.setting a.iw)) receiver)
+    (c.with_sender.ensures.1 ∙ (λ i. with_sender (c.with_receiver-half.ensures.1 i) (sender i)) ∙ ap (λ (r : Receiver). record { receiver = r; sender = new_sender a.setting a.iw }) receiver) in
     (new.0, c.put_row.ensures ∙ new.1, ap rows_of c.put_row.ensures ∙ new.2)

@@ -47,13 +47,10 @@ returns c =
     let s : ReceiverStep = c.drop-s.result in
     let run : s ≡ changed (answer_to r x) (state_after r x) = rw c.receiver-receiver.ensures at c.drop-s.ensures in
     let told : s.answer ≡ (answer_to r x).code = ap (λ (y : ReceiverStep). y.answer) run in
-    let found = c.by_number-to.ensures in
-    let free = c.if-to-ne0.false in
-    let row = c.with_receiver.ensures in
     let new =
-    asking.changed w d x to found free s.answer told (zero_moves s.answer c.if-s-ne0.false)
-    s.next (ap (λ (y : ReceiverStep). y.next) run) c.with_receiver.result.words row.0 row.1 in (
-      sym c.if-s-ne0.false ∙ told ∙ ap (λ (y : Answer). y.code) (row_answers w d x to found free),
+    asking.changed w d x to c.by_number-to.ensures c.if-to-ne0.false s.answer told (zero_moves s.answer c.if-s-ne0.false)
+    s.next (ap (λ (y : ReceiverStep). y.next) run) c.with_receiver.result.words c.with_receiver.ensures.0 c.with_receiver.ensures.1 in (
+      sym c.if-s-ne0.false ∙ told ∙ ap (λ (y : Answer). y.code) (row_answers w d x to c.by_number-to.ensures c.if-to-ne0.false),
       c.put_row.ensures ∙ new.0,
       ap rows_of c.put_row.ensures ∙ new.1,
     )

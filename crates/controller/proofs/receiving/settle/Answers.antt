@@ -47,13 +47,10 @@ returns c =
     let r : Receiver = receiver_of to.row.words in
     let s : Settled = c.settle-s.result in
     let run : s ≡ settled (answer_to r x) (state_after r x) = rw c.receiver-receiver.ensures at c.settle-s.ensures in
-    let found = c.by_session-to.ensures in
-    let free = c.if-to-ne0.false in
-    let row = c.with_receiver.ensures in
     let new =
-    changed w d x to found free s.answer (ap (λ (y : Settled). y.answer) run) (not-false _ (sym (settles_not s.answer) ∙ c.if-kept.false))
-    s.next (ap (λ (y : Settled). y.next) run) c.with_receiver.result.words row.0 row.1 in (
-      ap (λ (y : Settled). record { answer = y.answer; place = y.place; length = y.length }) run ∙ ap taken (row_answers w d x to found free),
+    changed w d x to c.by_session-to.ensures c.if-to-ne0.false s.answer (ap (λ (y : Settled). y.answer) run) (not-false _ (sym (settles_not s.answer) ∙ c.if-kept.false))
+    s.next (ap (λ (y : Settled). y.next) run) c.with_receiver.result.words c.with_receiver.ensures.0 c.with_receiver.ensures.1 in (
+      ap (λ (y : Settled). record { answer = y.answer; place = y.place; length = y.length }) run ∙ ap taken (row_answers w d x to c.by_session-to.ensures c.if-to-ne0.false),
       c.put_row.ensures ∙ new.0,
       ap rows_of c.put_row.ensures ∙ new.1,
     )

@@ -16,9 +16,9 @@ pub loop-i-preserved : goal.loop-i-preserved
 loop-i-preserved c =
     let t = c.args.table.now in
     let l = c.loop-i in
-    let not-here : clash_here t l.i ≡ false =
+    let not_here : clash_here t l.i ≡ false =
     rw (← c.split_at.ensures, ← c.free_at.ensures, ← c.id_at-id.ensures, ← c.shared.ensures) c.if-bad.false in
-    l.invariant ∙ clash_missed t l.i (search rules) not-here
+    l.invariant ∙ clash_missed t l.i (search rules) not_here
 
 pub returns : goal.returns
 returns c =

@@ -22,10 +22,9 @@ pub returns : goal.returns
 returns c =
     let a = c.args in
     let made = rw c.sender-sender.ensures at c.build-b.ensures in
-    let row = c.with_sender.ensures in
     let new =
     build_changes a.table.now a.row c.by_number-to.result c.by_number-to.ensures a.app.now a.random.now a.out.now c.if-to-ne0.false
-    c.build-b.result made.0 c.if-b-ne0.false c.with_sender.result.words row.0 row.1 in (
+    c.build-b.result made.0 c.if-b-ne0.false c.with_sender.result.words c.with_sender.ensures.0 c.with_sender.ensures.1 in (
       new.0,
       made.1 ∙ new.1,
       c.put_row.ensures ∙ new.2,

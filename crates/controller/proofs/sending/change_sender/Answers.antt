@@ -17,8 +17,7 @@ returns-then-s-ne0 c =
 pub returns : goal.returns
 returns c =
     let a = c.args in
-    let row = c.with_sender.ensures in
     let new =
     turn_changes a.table.now a.row c.by_number-to.result c.by_number-to.ensures a.iv c.if-to-ne0.false
-    c.change_key-s.result (rw c.sender-sender.ensures at c.change_key-s.ensures) c.if-s-ne0.false c.with_sender.result.words row.0 row.1 in
+    c.change_key-s.result (rw c.sender-sender.ensures at c.change_key-s.ensures) c.if-s-ne0.false c.with_sender.result.words c.with_sender.ensures.0 c.with_sender.ensures.1 in
     (new.0, c.put_row.ensures ∙ new.1, ap rows_of c.put_row.ensures ∙ new.2)

@@ -1,3 +1,4 @@
+-- `byte_of` sets the top bit, which no type up to the largest has, so that it is added.
 use native.Mathlib.Omega.{arith}
 use lib.Bits.{or_shifted_r}
 use Rattle.mctp.specs.Kind.{byte_of}

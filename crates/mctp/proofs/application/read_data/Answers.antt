@@ -1,3 +1,4 @@
+-- `read_data` answers as its table says: no byte, the barred type, or the two parts of the byte.
 use borrow.Author.Tests.{eq-eqb, ne_eqb}
 use mathlib.Core.Path.{◌∙◌}
 use Rattle.mctp.specs.Application.{unwrap_rows, read_data}

@@ -1,3 +1,4 @@
+-- `wrap_data` refuses a type by its own row, and leaves the row for the room and the writing to `put_led`.
 use lib.Dec.{eqb, ltb}
 use Rattle.mctp.specs.Kind as Kind
 use mathlib.Core.Path.{◌∙◌}
@@ -13,8 +14,7 @@ returns-then-wrapped c = rw (c.refused.ensures, c.if-wrapped.true)
 
 pub byte_of-requires : goal.byte_of-requires
 byte_of-requires c =
-    let kind = c.args.kind in
-    ltb-false _ _ (or_neither (eqb kind Kind.barred) (ltb Kind.largest kind) c.if-wrapped.false).1
+    ltb-false _ _ (or_neither (eqb c.args.kind Kind.barred) (ltb Kind.largest c.args.kind) c.if-wrapped.false).1
 
 pub returns : goal.returns
 unfolding writes wrap_rows

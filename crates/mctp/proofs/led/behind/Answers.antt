@@ -1,3 +1,4 @@
+-- `behind` hands out nothing on a refusal, else all behind the first byte.
 use Rattle.mctp.proofs.Parts.{behind_no, behind_empty, behind_all}
 use Rattle.mctp.proofs.led.behind.Goals as goal
 

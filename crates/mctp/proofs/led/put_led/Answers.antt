@@ -1,3 +1,4 @@
+-- `put_led` stores the byte and puts the rest behind it, which is the two in one, or touches nothing.
 use borrow.Author.Tests.{le-leb, lt-leb}
 use Rattle.mctp.proofs.Parts.{led_short, led_fits}
 use Rattle.mctp.proofs.led.put_led.Goals as goal

@@ -1,3 +1,4 @@
+-- `read_message` answers as its table says: no byte, or another than that of a secured message.
 use borrow.Author.Tests.{eq-eqb, ne_eqb}
 use Rattle.mctp.specs.Message.{frame_rows}
 use Rattle.mctp.proofs.message.read_message.Goals as goal

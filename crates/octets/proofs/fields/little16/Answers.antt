@@ -9,5 +9,4 @@ returns-then-s-at c = sym (field_past c.args.s.now _ 2 c.if-s-at.true)
 pub returns : goal.returns
 returns c =
     let a = c.args in
-    let byte = c.byte in
-    omega (arith, byte.ensures.0, c.byte-2.ensures.0, byte.ensures.1, c.byte-2.ensures.1, field_two a.s.now a.at)
+    omega (arith, c.byte.ensures.0, c.byte-2.ensures.0, c.byte.ensures.1, c.byte-2.ensures.1, field_two a.s.now a.at)

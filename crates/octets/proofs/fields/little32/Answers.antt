@@ -9,15 +9,13 @@ returns-then-s-at c = sym (field_past c.args.s.now _ 4 c.if-s-at.true)
 
 pub returns-then-s-a1 : goal.returns-then-s-a1
 returns-then-s-a1 c =
-    let args = c.args in
-    let if2 = c.if-s-a1 in
-    let a = args in
+    let a = c.args in
     omega (
       arith,
       c.byte.ensures.0,
       field_four a.s.now a.at,
       field_two a.s.now a.at,
-      past a.s.now _ if2.true,
+      past a.s.now _ c.if-s-a1.true,
       field_past a.s.now (a.at + 1 + 1) 2 (omega arith),
     )
 

@@ -14,5 +14,4 @@ returns-then-out-at-2 c =
 pub returns : goal.returns
 returns c =
     let a = c.args in
-    let copy = c.copy in
-    copy.ensures ∙ put_fits a.out.now _ a.src.now (omega arith)
+    c.copy.ensures ∙ put_fits a.out.now _ a.src.now (omega arith)

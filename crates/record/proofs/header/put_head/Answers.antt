@@ -8,24 +8,15 @@ use Rattle.record.proofs.header.put_head.Goals as goal
 pub returns-then-partial : goal.returns-then-partial
 returns-then-partial c =
     let a = c.args in
-    let put-little32 = c.put_little32 in
-    let has-partial = c.has_partial-partial in
-    let if1 = c.if-partial in
-    let put-little16 = c.put_little16 in
-    let put-little162 = c.put_little16-then-partial in
-    let p = sym has-partial.ensures ∙ if1.true in
+    let p = sym c.has_partial-partial.ensures ∙ c.if-partial.true in
     let l = partial_length a.setting p in
     head_written a.out.now _ _ _ _ _ _ p
-    (putting _ _ _ _ put-little32.ensures (omega arith)) (putting _ _ _ _ put-little16.ensures (omega arith)) (putting _ _ _ _ put-little162.ensures (omega arith))
+    (putting _ _ _ _ c.put_little32.ensures (omega arith)) (putting _ _ _ _ c.put_little16.ensures (omega arith)) (putting _ _ _ _ c.put_little16-then-partial.ensures (omega arith))
 
 pub returns : goal.returns
 returns c =
     let a = c.args in
-    let put-little32 = c.put_little32 in
-    let has-partial = c.has_partial-partial in
-    let if1 = c.if-partial in
-    let put-little163 = c.put_little16-2 in
-    let p = sym has-partial.ensures ∙ if1.false in
+    let p = sym c.has_partial-partial.ensures ∙ c.if-partial.false in
     let l = bare_length a.setting p in
     bare_written a.out.now _ _ _ a.number _ p
-    (putting _ _ _ _ put-little32.ensures (omega arith)) (putting _ _ _ _ put-little163.ensures (omega arith))
+    (putting _ _ _ _ c.put_little32.ensures (omega arith)) (putting _ _ _ _ c.put_little16-2.ensures (omega arith))

@@ -11,13 +11,9 @@ returns-then-clear c = rw (sym c.auth_only-clear.ensures ∙ c.if-clear.true) c.
 pub overflow_add-result : goal.overflow_add-result
 overflow_add-result c =
     let a = c.args in
-    let inner-len = c.inner_len in
-    let b = small a.setting in omega (arith, inner-len.ensures, c.mac_len-2.ensures)
+    let b = small a.setting in omega (arith, c.inner_len.ensures, c.mac_len-2.ensures)
 
 pub returns : goal.returns
 unfolding least
 returns c =
-    let auth-only = c.auth_only-clear in
-    let if1 = c.if-clear in
-    let inner-len = c.inner_len in
-    rw (sym auth-only.ensures ∙ if1.false, inner-len.ensures, c.mac_len-2.ensures)
+    rw (sym c.auth_only-clear.ensures ∙ c.if-clear.false, c.inner_len.ensures, c.mac_len-2.ensures)

@@ -11,24 +11,16 @@ returns-then-clear c = rw (sym c.auth_only-clear.ensures ∙ c.if-clear.true)
 pub overflow_add-result : goal.overflow_add-result
 unfolding body_len
 overflow_add-result c =
-    let args = c.args in
-    let pre = c.requires in
-    let auth-only = c.auth_only-clear in
-    let if1 = c.if-clear in
-    let a = args in
+    let a = c.args in
     let b = small a.setting in
-    let p = rw (sym auth-only.ensures ∙ if1.false) at (pre) in omega (arith, c.inner_len.ensures)
+    let p = rw (sym c.auth_only-clear.ensures ∙ c.if-clear.false) at (c.requires) in omega (arith, c.inner_len.ensures)
 
 pub overflow_add-result-2 : goal.overflow_add-result-2
 unfolding body_len
 overflow_add-result-2 c =
-    let args = c.args in
-    let pre = c.requires in
-    let auth-only = c.auth_only-clear in
-    let if1 = c.if-clear in
-    let a = args in
+    let a = c.args in
     let b = small a.setting in
-    let p = rw (sym auth-only.ensures ∙ if1.false) at (pre) in omega (arith, c.inner_len.ensures)
+    let p = rw (sym c.auth_only-clear.ensures ∙ c.if-clear.false) at (c.requires) in omega (arith, c.inner_len.ensures)
 
 pub returns : goal.returns
 unfolding body_len

@@ -10,8 +10,7 @@ use Rattle.rows.proofs.part.iv_words.Goals as goal
 
 pub returns : goal.returns
 returns c =
-    let iv = c.args.iv in
-    let bytes : (i : ℕ) → Fits w8 (get_or iv i 0) = λ i. search rules in
-    let long : length iv ≡ 12 = search rules in
-    rw (c.little32-low.ensures, c.little32-high.ensures, c.little32-tail.ensures, ← (field_eight iv 0))
-    (refl, iv_back iv (λ i. (bytes i).fits) long)
+    let bytes : (i : ℕ) → Fits w8 (get_or c.args.iv i 0) = λ i. search rules in
+    let long : length c.args.iv ≡ 12 = search rules in
+    rw (c.little32-low.ensures, c.little32-high.ensures, c.little32-tail.ensures, ← (field_eight c.args.iv 0))
+    (refl, iv_back c.args.iv (λ i. (bytes i).fits) long)

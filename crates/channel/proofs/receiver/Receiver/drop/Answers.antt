@@ -11,25 +11,16 @@ pub returns-then-bad : goal.returns-then-bad
 unfolding rows state_rows look marks
 returns-then-bad c =
     let a = c.args in
-    let is-bad = c.is_bad-bad in
-    let if1 = c.if-bad in
-    c.with.ensures ∙ changed_no a.self drop_old 1 (rw (sym is-bad.ensures ∙ if1.true)) (λ z. omega arith) refl
+    c.with.ensures ∙ changed_no a.self drop_old 1 (rw (sym c.is_bad-bad.ensures ∙ c.if-bad.true)) (λ z. omega arith) refl
 
 pub returns-then-none : goal.returns-then-none
 unfolding rows state_rows look marks
 returns-then-none c =
     let a = c.args in
-    let is-bad = c.is_bad-bad in
-    let if1 = c.if-bad in
-    let if2 = c.if-none in
-    c.with-then-none.ensures ∙ changed_no a.self drop_old 3 (rw (sym is-bad.ensures ∙ if1.false, if2.true)) (λ z. omega arith) refl
+    c.with-then-none.ensures ∙ changed_no a.self drop_old 3 (rw (sym c.is_bad-bad.ensures ∙ c.if-bad.false, c.if-none.true)) (λ z. omega arith) refl
 
 pub returns : goal.returns
 unfolding rows state_rows look marks granted effect_of change
 returns c =
     let a = c.args in
-    let is-bad = c.is_bad-bad in
-    let if1 = c.if-bad in
-    let if2 = c.if-none in
-    let zeros = c.zeros-zero in
-    c.with-2.ensures ∙ rw zeros.ensures (changed_ok a.self drop_old (rw (sym is-bad.ensures ∙ if1.false, if2.false)) refl)
+    c.with-2.ensures ∙ rw c.zeros-zero.ensures (changed_ok a.self drop_old (rw (sym c.is_bad-bad.ensures ∙ c.if-bad.false, c.if-none.false)) refl)

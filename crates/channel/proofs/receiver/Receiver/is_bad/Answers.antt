@@ -3,25 +3,12 @@ use Rattle.channel.proofs.receiver.Receiver.is_bad.Goals as goal
 
 pub returns-then-is_bad-sound : goal.returns-then-is_bad-sound
 returns-then-is_bad-sound c =
-    let sound = c.sound in
-    let is-bad = c.is_bad in
-    let rule = c.rule-rule in
-    bad_front _ (rw (is-bad.ensures, sound.ensures, rule.ensures) at c.if-is_bad-sound.true)
+    bad_front _ (rw (c.is_bad.ensures, c.sound.ensures, c.rule-rule.ensures) at c.if-is_bad-sound.true)
 
 pub returns-then-self : goal.returns-then-self
 returns-then-self c =
-    let if2 = c.if-self in
-    let if1 = c.if-is_bad-sound in
-    let sound = c.sound in
-    let is-bad = c.is_bad in
-    let rule = c.rule-rule in
-    rw (c.sound-then-self.ensures, rule.ensures) (bad_held _ (rw (is-bad.ensures, sound.ensures, rule.ensures) at if1.false) if2.true)
+    rw (c.sound-then-self.ensures, c.rule-rule.ensures) (bad_held _ (rw (c.is_bad.ensures, c.sound.ensures, c.rule-rule.ensures) at c.if-is_bad-sound.false) c.if-self.true)
 
 pub returns : goal.returns
 returns c =
-    let if2 = c.if-self in
-    let if1 = c.if-is_bad-sound in
-    let sound = c.sound in
-    let is-bad = c.is_bad in
-    let rule = c.rule-rule in
-    rw c.is_zero.ensures (bad_bare _ (rw (is-bad.ensures, sound.ensures, rule.ensures) at if1.false) if2.false)
+    rw c.is_zero.ensures (bad_bare _ (rw (c.is_bad.ensures, c.sound.ensures, c.rule-rule.ensures) at c.if-is_bad-sound.false) c.if-self.false)

@@ -9,57 +9,24 @@ returns-then-l-ne0 c = c.refused.ensures ∙ settle_look _ _ _ _ c.look-l.ensure
 
 pub returns-then-stale : goal.returns-then-stale
 returns-then-stale c =
-    let look = c.look-l in
-    let if1 = c.if-l-ne0 in
-    let count_at = c.count_at in
-    let if2 = c.if-stale in
-    c.refused-then-stale.ensures ∙ settle_stale _ _ _ _ look.ensures _ _ _ _ if1.false (rw count_at.ensures at if2.true)
+    c.refused-then-stale.ensures ∙ settle_stale _ _ _ _ c.look-l.ensures _ _ _ _ c.if-l-ne0.false (rw c.count_at.ensures at c.if-stale.true)
 
 pub returns-then-unfit : goal.returns-then-unfit
 returns-then-unfit c =
-    let look = c.look-l in
-    let if1 = c.if-l-ne0 in
-    let count_at = c.count_at in
-    let if2 = c.if-stale in
-    let if3 = c.if-unfit in
-    c.refused-then-unfit.ensures ∙ settle_plain _ _ _ _ look.ensures _ _ _ _ if1.false (rw count_at.ensures at if2.false) (ap not (ne_eqb _ _ if3.true))
+    c.refused-then-unfit.ensures ∙ settle_plain _ _ _ _ c.look-l.ensures _ _ _ _ c.if-l-ne0.false (rw c.count_at.ensures at c.if-stale.false) (ap not (ne_eqb _ _ c.if-unfit.true))
 
 pub returns-then-not-passed : goal.returns-then-not-passed
 returns-then-not-passed c =
-    let look = c.look-l in
-    let if1 = c.if-l-ne0 in
-    let count_at = c.count_at in
-    let if2 = c.if-stale in
-    let if3 = c.if-unfit in
-    let if4 = c.if-not-passed in
-    c.refused-then-not-passed.ensures ∙ settle_mac _ _ _ _ look.ensures _ _ _ _ if1.false (rw count_at.ensures at if2.false) (ap not (eq-eqb _ _ if3.false)) (ap not if4.true)
+    c.refused-then-not-passed.ensures ∙ settle_mac _ _ _ _ c.look-l.ensures _ _ _ _ c.if-l-ne0.false (rw c.count_at.ensures at c.if-stale.false) (ap not (eq-eqb _ _ c.if-unfit.false)) (ap not c.if-not-passed.true)
 
 pub returns-then-inner : goal.returns-then-inner
 returns-then-inner c =
-    let look = c.look-l in
-    let if1 = c.if-l-ne0 in
-    let count_at = c.count_at in
-    let if2 = c.if-stale in
-    let if3 = c.if-unfit in
-    let if4 = c.if-not-passed in
-    let marked = c.marked-next in
-    let inner-bad = c.inner_bad-inner in
-    let if5 = c.if-inner in
     c.refused-then-inner.ensures
-    ∙ settle_inner _ _ _ _ look.ensures _ _ _ _ if1.false (rw count_at.ensures at if2.false) (ap not (eq-eqb _ _ if3.false)) (ap not if4.false) marked.ensures
-    (sym inner-bad.ensures ∙ if5.true)
+    ∙ settle_inner _ _ _ _ c.look-l.ensures _ _ _ _ c.if-l-ne0.false (rw c.count_at.ensures at c.if-stale.false) (ap not (eq-eqb _ _ c.if-unfit.false)) (ap not c.if-not-passed.false) c.marked-next.ensures
+    (sym c.inner_bad-inner.ensures ∙ c.if-inner.true)
 
 pub returns : goal.returns
 returns c =
-    let look = c.look-l in
-    let if1 = c.if-l-ne0 in
-    let count_at = c.count_at in
-    let if2 = c.if-stale in
-    let if3 = c.if-unfit in
-    let if4 = c.if-not-passed in
-    let marked = c.marked-next in
-    let inner-bad = c.inner_bad-inner in
-    let if5 = c.if-inner in
     rw c.data_len.ensures
-    (settle_ok _ _ _ _ look.ensures _ _ _ _ if1.false (rw count_at.ensures at if2.false) (ap not (eq-eqb _ _ if3.false)) (ap not if4.false) marked.ensures
-    (sym inner-bad.ensures ∙ if5.false))
+    (settle_ok _ _ _ _ c.look-l.ensures _ _ _ _ c.if-l-ne0.false (rw c.count_at.ensures at c.if-stale.false) (ap not (eq-eqb _ _ c.if-unfit.false)) (ap not c.if-not-passed.false) c.marked-next.ensures
+    (sym c.inner_bad-inner.ensures ∙ c.if-inner.false))

@@ -14,72 +14,45 @@ returns-then-padded c = c.refused.ensures ∙ rw (rw c.auth_only-clear.ensures a
 pub returns-then-big : goal.returns-then-big
 unfolding form_of form_rows
 returns-then-big c =
-    let auth-only = c.auth_only-clear in
-    let if1 = c.if-padded in
-    let oversize = c.oversize-big in
-    let if2 = c.if-big in
-    c.refused-then-big.ensures ∙ rw (rw auth-only.ensures at if1.false, sym oversize.ensures ∙ if2.true)
+    c.refused-then-big.ensures ∙ rw (rw c.auth_only-clear.ensures at c.if-padded.false, sym c.oversize-big.ensures ∙ c.if-big.true)
 
 pub body_len-requires : goal.body_len-requires
 body_len-requires c = ltb-false _ _ (sym c.oversize-big.ensures ∙ c.if-big.false)
 
 pub overflow_add-text : goal.overflow_add-text
 overflow_add-text c =
-    let args = c.args in
-    let oversize = c.oversize-big in
-    let if2 = c.if-big in
-    let head-len = c.head_len-head in
-    let a = args in
+    let a = c.args in
     let b = small a.setting in
-    let h : length_for a.setting a.p a.q ≤ most_length a.setting = ltb-false _ _ (sym oversize.ensures ∙ if2.false) in
-    omega (arith, c.body_len.ensures, head-len.ensures)
+    let h : length_for a.setting a.p a.q ≤ most_length a.setting = ltb-false _ _ (sym c.oversize-big.ensures ∙ c.if-big.false) in
+    omega (arith, c.body_len.ensures, c.head_len-head.ensures)
 
 pub overflow_add-total : goal.overflow_add-total
 overflow_add-total c =
-    let args = c.args in
-    let oversize = c.oversize-big in
-    let if2 = c.if-big in
-    let head-len = c.head_len-head in
-    let body-len = c.body_len in
-    let a = args in
+    let a = c.args in
     let b = small a.setting in
-    let h : length_for a.setting a.p a.q ≤ most_length a.setting = ltb-false _ _ (sym oversize.ensures ∙ if2.false) in
-    omega (arith, body-len.ensures, head-len.ensures, c.mac_len.ensures)
+    let h : length_for a.setting a.p a.q ≤ most_length a.setting = ltb-false _ _ (sym c.oversize-big.ensures ∙ c.if-big.false) in
+    omega (arith, c.body_len.ensures, c.head_len-head.ensures, c.mac_len.ensures)
 
 pub returns-then-clear : goal.returns-then-clear
 unfolding form_of form_rows assoc_end_for
 returns-then-clear c =
-    let auth-only = c.auth_only-clear in
-    let if1 = c.if-padded in
-    let oversize = c.oversize-big in
-    let if2 = c.if-big in
-    let head-len = c.head_len-head in
-    let body-len = c.body_len in
-    let mac-len = c.mac_len in
     rw (
-      rw auth-only.ensures at if1.false,
-      sym oversize.ensures ∙ if2.false,
-      body-len.ensures,
-      head-len.ensures,
-      mac-len.ensures,
-      sym auth-only.ensures ∙ c.if-clear.true,
+      rw c.auth_only-clear.ensures at c.if-padded.false,
+      sym c.oversize-big.ensures ∙ c.if-big.false,
+      c.body_len.ensures,
+      c.head_len-head.ensures,
+      c.mac_len.ensures,
+      sym c.auth_only-clear.ensures ∙ c.if-clear.true,
     )
 
 pub returns : goal.returns
 unfolding form_of form_rows assoc_end_for
 returns c =
-    let auth-only = c.auth_only-clear in
-    let if1 = c.if-padded in
-    let oversize = c.oversize-big in
-    let if2 = c.if-big in
-    let head-len = c.head_len-head in
-    let body-len = c.body_len in
-    let mac-len = c.mac_len in
     rw (
-      rw auth-only.ensures at if1.false,
-      sym oversize.ensures ∙ if2.false,
-      body-len.ensures,
-      head-len.ensures,
-      mac-len.ensures,
-      sym auth-only.ensures ∙ c.if-clear.false,
+      rw c.auth_only-clear.ensures at c.if-padded.false,
+      sym c.oversize-big.ensures ∙ c.if-big.false,
+      c.body_len.ensures,
+      c.head_len-head.ensures,
+      c.mac_len.ensures,
+      sym c.auth_only-clear.ensures ∙ c.if-clear.false,
     )
