@@ -1,7 +1,7 @@
 #!/usr/bin/env python3
 """Spells the repository's own definitions and lemmas as today's Rattle does: words in snake case, types in camel case.
 
-usage: python3 tools/spell.py [--list]     at the top of a checkout that /opt/rattle/port/port.py has turned
+usage: python3 tools/spell.py [--list]     at the top of a checkout that the kit's port.py has turned
 
 It looks for the names that specs/ and proofs/ declare, and writes the new ones into every .antt and .edit file, into the
 clauses and the `ghost use` lines of the .rt files, and into what README.md, Makefile and docs/ have between backquotes.
