@@ -3,3 +3,4 @@ pub mod Table
 pub mod Given
 pub mod Reasons
 pub mod OneAnswer
+pub mod Answer
