@@ -7,6 +7,10 @@ use native.Mathlib.Omega.{arith}
 use borrow.Author.Count.{below_more}
 use lib.ListN.{length, get_or, replicate, length-replicate, get_or-replicate}
 use lib.Seq.{ext_get_or}
+use lib.Dec.{eqb}
+use lib.Pointwise.{pointwise, bytes_decides}
+use Rattle.std.proofs.lemmas.Bool.{true_from_ne_false}
+use Rattle.std.proofs.lemmas.Bool.Decides.{same_from_decides}
 use Rattle.answers.specs.Reasons.{Tells}
 use Rattle.answers.proofs.Tests.{true_not_false, tells_eq, tells_and}
 use Rattle.octets.specs.Fields.{blank}
@@ -32,3 +36,11 @@ blank_list n s h =
           (λ i l. t.holds e i (omega arith) ∙ sym (get_or-replicate n i 0 0 (omega arith)));
       fails = λ e p. t.fails e (λ i l. ap (λ (x : List ℕ). get_or x i 0) p ∙ get_or-replicate n i 0 0 l);
     }
+
+-- it is what a comparison with n zeros answers
+pub blank_test : (n : ℕ) (s : List ℕ) → length s ≡ n → pointwise eqb s (replicate n 0) ≡ blank n s
+blank_test n s h =
+    let t = blank_list n s h in
+    let z : List ℕ = replicate n 0 in
+    same_from_decides {P = s ≡ z} (pointwise eqb s z) (blank n s) (bytes_decides s z)
+    (t.holds, λ p. true_from_ne_false (blank n s) (λ e. t.fails e p))

@@ -1,31 +1,26 @@
--- Fields past the end, bytes that fit or do not, and one part put behind another.
+-- Fields from a place on, bytes that fit or do not, and one part put behind another.
 -- Assumes nothing.
 use Prim.Native.Nat.{ℕ, zero, suc, ◌+◌, ◌*◌, ◌≤◌, ◌<◌}
 use mathlib.Core.List.{List, ◌++◌, append_assoc}
 use mathlib.Core.Path.{◌≡◌, refl, sym, ap, ◌∙◌}
-use native.Mathlib.Nat.{add_assoc}
+use native.Mathlib.Nat.{add-zero, add_assoc}
 use native.Mathlib.Omega.{arith}
-use lib.ListN.{length, take, drop, get_or, length-append, get_or-eq_default}
+use lib.ListN.{length, take, drop, length-append}
 use lib.Seq.{length-take-le, take_at, drop_at, drop-drop}
+use Rattle.std.proofs.lemmas.List.{get_or-drop}
 use borrow.Author.Tests.{le-leb, lt-leb}
+use borrow.Rule.Slice.PartMut.{put_mid}
 use Rattle.octets.specs.Fields.{field}
 use Rattle.octets.specs.Parts.{over, put}
 
-pub past : (s : List ℕ) (at : ℕ) → length s ≤ at → get_or s at 0 ≡ 0
-past s at h = get_or-eq_default s 0 h
-
-pub field_past : (s : List ℕ) (at k : ℕ) → length s ≤ at → field s at k ≡ 0
+field_drop : (s : List ℕ) (at i k : ℕ) → field s (at + i) k ≡ field (drop at s) i k
 unfolding field
-field_past s at zero h = refl
-field_past s at (suc k) h = rw (past s at h, field_past s (at + 1) k (omega arith))
+field_drop s at i zero = refl
+field_drop s at i (suc k) = rw (get_or-drop at s i 0, ← field_drop s at (i + 1) k, add_assoc at i 1) refl
 
-pub field_two : (s : List ℕ) (at : ℕ) → field s at 2 ≡ get_or s at 0 + 256 * get_or s (at + 1) 0
-unfolding field
-field_two s at = omega arith
-
-pub field_four : (s : List ℕ) (at : ℕ) → field s at 4 ≡ field s at 2 + 65536 * field s (at + 1 + 1) 2
-unfolding field
-field_four s at = omega arith
+-- what stands before a field does not count
+pub field_from : (s : List ℕ) (at k : ℕ) → field s at k ≡ field (drop at s) 0 k
+field_from s at k = rw add-zero at (field_drop s at 0 k)
 
 pub field_eight : (s : List ℕ) (at : ℕ) → field s at 8 ≡ field s at 4 + 4294967296 * field s (at + 1 + 1 + 1 + 1) 4
 unfolding field
@@ -59,3 +54,8 @@ over_over d at a b n h e =
     ap (λ (l : List ℕ). l ++ b ++ drop (n + length b) (p ++ q)) t
     ∙ ap (λ (l : List ℕ). p ++ b ++ l) u
     ∙ ap (λ (l : List ℕ). l ++ drop (at + length (a ++ b)) d) (append_assoc (take at d) a b)
+
+-- bytes that were lent from at, and then hold src, are src put there
+pub put_lent : (d : List ℕ) (at k : ℕ) (lent src : List ℕ) → lent ≡ src → k ≡ length src → at + length src ≤ length d
+    → put_mid at k d lent ≡ put d at src
+put_lent d at k lent src p e h = rw (p, e, drop-drop (length src) at d, ← append_assoc) (put_fits d at src h)
