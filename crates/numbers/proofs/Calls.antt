@@ -14,15 +14,16 @@ use Rattle.answers.specs.Table.{given}
 use Rattle.numbers.specs.declared.marks.Marks.{Marks}
 use Rattle.numbers.specs.declared.window.Rule.{Rule}
 use Rattle.numbers.specs.declared.window.Window.{Window}
-use Rattle.numbers.specs.declared.window.Placed.{Placed}
 use Rattle.numbers.specs.Number.{nearest}
 use Rattle.numbers.specs.Word.{most, bit, set_bit, word_of, marks_of}
 use Rattle.numbers.specs.Window.{verdict, mark_next, mark_word, sound}
-use Rattle.numbers.specs.Contract.{width_of, window_of, empty_window, no_place, seen_by, judged, placed, after, is_empty, sound_window, gaps_of}
+use Rattle.numbers.specs.Contract.{Placed, width_of, window_of, empty_window, no_place, seen_by, judged, placed, after, is_empty, sound_window, gaps_of}
 use Rattle.numbers.proofs.Bits.{mod_within, set_lt}
 use Rattle.numbers.proofs.Cases.{verdict_spent, verdict_ahead, verdict_old, verdict_bit, mark_spent, mark_ahead, mark_old, mark_within, below_test}
 use Rattle.numbers.proofs.Gaps.{gaps_ones, low_ones}
-use Rattle.numbers.proofs.Word.{Typed, word_lt, word_marks, marks_word}
+use Rattle.numbers.proofs.Word.{Typed, typed_of, word_lt, word_marks, marks_word, same_is}
+use Rattle.std.specs.Prelude.{nat_eq}
+use Rattle.std.specs.Cmp.Lexicographic.{pointwise}
 use Rattle.numbers.proofs.Adaptor.{width_le}
 
 abbrev taken : ℕ → Placed
@@ -46,16 +47,16 @@ module _ (r : Rule) (s : Window) (n : ℕ) where
   judged_by e = sym (ap (λ (v : ℕ). given v (taken n) no_place) e)
 
   -- at the limit or past it
-  pub judged_spent : {p : Placed} → p ≡ no_place Refusal.spent → r.limit ≤ n → p ≡ judged r s n
-  judged_spent p h = p ∙ judged_by (verdict_spent _ _ _ _ _ h)
+  pub judged_spent : r.limit ≤ n → no_place Refusal.spent ≡ judged r s n
+  judged_spent h = judged_by (verdict_spent _ _ _ _ _ h)
 
   -- past all that was marked
   pub judged_ahead : n < r.limit → s.next ≤ n → taken n ≡ judged r s n
   judged_ahead h k = judged_by (verdict_ahead _ _ _ _ _ h k)
 
   -- older than the width
-  pub judged_old : {w : ℕ} {p : Placed} → p ≡ no_place Refusal.old → n < r.limit → n < s.next → w ≡ width_of r → w ≤ s.next - 1 - n → p ≡ judged r s n
-  judged_old p h k e o = p ∙ judged_by (verdict_old _ _ _ _ _ h k (omega arith))
+  pub judged_old : {w : ℕ} → n < r.limit → n < s.next → w ≡ width_of r → w ≤ s.next - 1 - n → no_place Refusal.old ≡ judged r s n
+  judged_old h k e o = judged_by (verdict_old _ _ _ _ _ h k (omega arith))
 
   module _ {w : ℕ} {b : Bool} (h : n < r.limit) (k : n < s.next) (e : w ≡ width_of r) (o : s.next - 1 - n < w)
       (t : b ≡ bit (word_of s.marks) (s.next - 1 - n)) where
@@ -63,8 +64,8 @@ module _ (r : Rule) (s : Window) (n : ℕ) where
     by_bit q = judged_by (verdict_bit _ _ _ _ _ h k (omega arith) ∙ ap (λ (x : Bool). cond x Refusal.repeat 0) (sym t ∙ q))
 
     -- within the width and marked
-    pub judged_repeat : {p : Placed} → p ≡ no_place Refusal.repeat → b ≡ true → p ≡ judged r s n
-    judged_repeat p q = p ∙ by_bit q
+    pub judged_repeat : b ≡ true → no_place Refusal.repeat ≡ judged r s n
+    judged_repeat q = by_bit q
 
     -- within the width and not marked
     pub judged_new : b ≡ false → taken n ≡ judged r s n
@@ -120,9 +121,9 @@ module _ (r : Rule) (s : Window) (n : ℕ) where
 -- ---- place
 
 -- a number that is beyond every limit
-pub placed_spent : (r : Rule) (s : Window) (low : ℕ) {p : Placed} → p ≡ no_place Refusal.spent → r.limit ≤ nearest s.next low → p ≡ placed r s low
+pub placed_spent : (r : Rule) (s : Window) (low : ℕ) → r.limit ≤ nearest s.next low → no_place Refusal.spent ≡ placed r s low
 unfolding placed
-placed_spent r s low p h = judged_spent r s (nearest s.next low) p h
+placed_spent r s low h = judged_spent r s (nearest s.next low) h
 
 -- a number that is the nearest
 pub placed_at : (r : Rule) (s : Window) (low : ℕ) {n : ℕ} {p : Placed} → p ≡ judged r s n → n ≡ nearest s.next low → p ≡ placed r s low
@@ -131,11 +132,14 @@ placed_at r s low p h = p ∙ ap (judged r s) h
 
 -- ---- is_empty
 
--- the tests of `is_empty`
-pub empty_test : (s : Window) {o : Marks} {b : Bool} → b ≡ eqb (word_of s.marks) (word_of o) → o ≡ marks_of 0 → (eqb s.next 0 && b) ≡ is_empty s
-unfolding is_empty
-empty_test s p q =
-    ap (λ (x : Bool). eqb s.next 0 && x) (p ∙ ap (eqb (word_of s.marks)) (ap word_of q ∙ word_marks 0 (pow_pos most)))
+-- the test of `is_empty`
+pub empty_test : (s : Window) {e : Window} → Typed s.marks → e ≡ empty_window
+    → (eqb s.next e.next && pointwise nat_eq s.marks.words e.marks.words) ≡ is_empty s
+unfolding is_empty window_of
+empty_test s f q =
+    ap (λ (e : Window). eqb s.next e.next && pointwise nat_eq s.marks.words e.marks.words) q
+    ∙ ap (λ (x : Bool). eqb s.next 0 && x)
+    (same_is s.marks (marks_of 0) f (typed_of 0 (pow_pos most)) ∙ ap (eqb (word_of s.marks)) (word_marks 0 (pow_pos most)))
 
 -- ---- sound and gaps: k is how many numbers the window holds, low its word cut to them
 

@@ -1,6 +1,7 @@
 -- For each public function: two answers that its contract allows are one.
 -- Assumes nothing.
 use Rattle.answers.proofs.OneAnswer.{OneAnswer, one}
+use Rattle.numbers.proofs.Laws.{placed_once}
 use Rattle.numbers.proofs.marks.Marks.none.Reads as none
 use Rattle.numbers.proofs.marks.Marks.moved.Reads as moved
 use Rattle.numbers.proofs.marks.Marks.cut.Reads as cut
@@ -51,10 +52,10 @@ pub sound_one : OneAnswer sound.Post (λ κs x s. x)
 sound_one κs a x y s t p q = one p q
 
 pub place_one : OneAnswer place.Post (λ κs x s. x)
-place_one κs a x y s t p q = one p q
+place_one κs a x y s t p q = placed_once x y (one p q)
 
 pub judge_one : OneAnswer judge.Post (λ κs x s. x)
-judge_one κs a x y s t p q = one p q
+judge_one κs a x y s t p q = placed_once x y (one p q)
 
 pub mark_one : OneAnswer mark.Post (λ κs x s. x)
 mark_one κs a x y s t p q = one p q

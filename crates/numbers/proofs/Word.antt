@@ -1,13 +1,16 @@
 -- The window word: what its type says of it, and what each call of `Marks` makes. Here alone it matters what the word is made of.
 -- Assumes nothing.
 use Prim.Native.Nat.{ℕ, zero, suc, ◌+◌, ◌-◌, ◌*◌, ◌/◌, ◌%◌, ◌^◌, ◌≤◌, ◌<◌, min}
-use mathlib.Core.Bool.{Bool, false, ◌&&◌}
+use mathlib.Core.Bool.{Bool, true, false}
 use mathlib.Core.List.{List, [], ◌∷◌}
-use mathlib.Core.Path.{◌≡◌, refl, sym, ap, ap₂, ◌∙◌}
-use native.Mathlib.Nat.{mod-lt, mod-one, mod-eq_of_lt, lt_of_lt_of_le, div-eq_of_lt, zero-div, mul-one, add-zero, min-eq_left, min-eq_right, le_of_lt}
+use mathlib.Core.Path.{◌≡◌, refl, sym, ap, ◌∙◌}
+use native.Mathlib.Nat.{mod-lt, mod-eq_of_lt, lt_of_lt_of_le, zero-div, add-zero, min-eq_right, le_of_lt}
 use native.Mathlib.Omega.{arith}
+use borrow.Author.Tests.{eq-eqb, ne_eqb}
+use Rattle.std.specs.Prelude.{nat_eq}
+use Rattle.std.specs.Cmp.Lexicographic.{pointwise, same_text, other_text}
 use lib.Bits.{bit_and, bit_or, and_mask, or_shifted}
-use lib.Count.{ones, ones-le}
+use lib.Count.{ones}
 use lib.Dec.{eqb, lit<}
 use lib.ListN.{length, take, get_or, set, length-set}
 use lib.Pow.{pow_pos, pow_mono}
@@ -16,7 +19,7 @@ use mir.Val.{Fits}
 use Rattle.numbers.specs.declared.marks.Marks.{Marks}
 use Rattle.numbers.specs.Word.{bit, set_bit, most, joined, split, word_of, marks_of}
 use Rattle.numbers.proofs.Bits.{one_shifted, shifted_out, test_bit, high_bit, set_lt, set_out}
-use Rattle.numbers.proofs.Words.{Words, joined_lt, joined_split, split_joined, word_bit, word_set, set_words, sum_ones, ones_joined, cut_words, cut_words_lem, cut_joined, up_words, stays, comes, up_words_lem, up_joined, zeros, zeros_words, zeros_joined, take_words, take_joined, move_move, same_step}
+use Rattle.numbers.proofs.Words.{Words, joined_lt, joined_split, split_joined, word_bit, word_set, set_words, sum_ones, ones_joined, cut_words, cut_words_lem, cut_joined, up_words, stays, comes, up_words_lem, up_joined, zeros, zeros_words, zeros_joined, take_words, take_joined, move_move}
 
 -- what the type of the word says: it has four words, and each fits
 pub record Typed (m : Marks) : Type 0 where
@@ -123,25 +126,12 @@ none_zeros j = ap (λ (m : Marks). word_at m j) (sym none_is) ∙ go j
 
 -- ---- one word of the four: what `up` and `low` make
 
-pub up_none : (x c n : ℕ) → x < 2 ^ 64 → c < 2 ^ 64 → n ≡ 0 → x ≡ x * 2 ^ n % 2 ^ 64 + c / 2 ^ (64 - n)
-up_none x c n h k e = rw (e, mul-one, mod-eq_of_lt h, div-eq_of_lt k) (sym (add-zero x))
-
 pub up_some : (x c n : ℕ) → c < 2 ^ 64 → n < 64 → bit_or (x * 2 ^ n % 2 ^ 64) (c / 2 ^ (64 - n)) ≡ x * 2 ^ n % 2 ^ 64 + c / 2 ^ (64 - n)
 up_some x c n h k =
     let p : n ≤ 64 = omega arith in
     rw (stays 64 n p x) (or_shifted (x % 2 ^ (64 - n)) n (c / 2 ^ (64 - n)) (comes 64 n p c h))
 
--- the mask's subtraction does not wrap
-pub mask_pos : (n : ℕ) → n < 64 → 1 ≤ 1 * 2 ^ n % 2 ^ 64
-mask_pos n h = rw (one_shifted 64 n h) (pow_pos n)
-
 module _ (x k below : ℕ) where
-  pub low_none : k ≤ below → 0 ≡ x % 2 ^ min 64 (k - below)
-  low_none p = let e : min 64 (k - below) ≡ 0 = omega arith in rw e (sym (mod-one x))
-
-  pub low_all : x < 2 ^ 64 → 64 ≤ k - below → x ≡ x % 2 ^ min 64 (k - below)
-  low_all h p = rw (min-eq_left p) (sym (mod-eq_of_lt h))
-
   pub low_some : k - below < 64 → bit_and x (1 * 2 ^ (k - below) % 2 ^ 64 - 1) ≡ x % 2 ^ min 64 (k - below)
   low_some p =
       rw (min-eq_right (le_of_lt p)) (ap (λ (y : ℕ). bit_and x (y - 1)) (one_shifted 64 (k - below) p) ∙ and_mask x (k - below))
@@ -218,10 +208,6 @@ module _ (m : Marks) (f : Typed m) where
   pub test_out : (k : ℕ) → most ≤ k → false ≡ bit (word_of m) k
   test_out k h = sym (high_bit most (word_of m) k (word_lt m f) h)
 
-  -- one word has at most 64 ones
-  pub ones_each : (j : ℕ) → ones (word_at m j) ≤ 64
-  ones_each j = ones-le 64 (word_at m j) (f.each j).fits
-
   -- the word has the ones of its four words
   pub ones_four : ones (word_at m 3) + ones (word_at m 2) + ones (word_at m 1) + ones (word_at m 0) ≡ ones (word_of m)
   unfolding sum_ones
@@ -239,20 +225,12 @@ moved_by_both m k e g =
     ∙ move_move most (word_of m) (64 * (k / 64)) (k % 64) k (omega arith))
 
 -- two words are the same number where they are the same word by word
-module _ (m n : Marks) (f : Typed m) (g : Typed n) where
-  abbrev alike : ℕ → Bool
-  alike j = eqb (word_at m j) (word_at n j)
+pub same_is : (m n : Marks) → Typed m → Typed n → pointwise nat_eq m.words n.words ≡ eqb (word_of m) (word_of n)
+same_is m n f g = go (pointwise nat_eq m.words n.words) refl
+  where
+    from_number : word_of m ≡ word_of n → m ≡ n
+    from_number h = sym (marks_word m f) ∙ ap marks_of h ∙ marks_word n g
 
-  with_next : (p q j : ℕ) → (eqb p q && alike j) ≡ eqb (p * 2 ^ 64 + word_at m j) (q * 2 ^ 64 + word_at n j)
-  with_next p q j = same_step 64 p q _ _ (f.each j).fits (g.each j).fits
-
-  four_alike : (alike 3 && alike 2 && alike 1 && alike 0) ≡ eqb (joined 64 (four m)) (joined 64 (four n))
-  unfolding joined
-  four_alike =
-      ap (λ (x : Bool). x && alike 2 && alike 1 && alike 0) (with_next 0 0 3)
-      ∙ ap (λ (x : Bool). x && alike 1 && alike 0) (with_next _ _ 2)
-      ∙ ap (λ (x : Bool). x && alike 0) (with_next _ _ 1)
-      ∙ with_next _ _ 0
-
-  pub same_is : (eqb (word_at m 3) (word_at n 3) && eqb (word_at m 2) (word_at n 2) && eqb (word_at m 1) (word_at n 1) && eqb (word_at m 0) (word_at n 0)) ≡ eqb (word_of m) (word_of n)
-  same_is = four_alike ∙ ap₂ eqb (sym (four_make m f)) (sym (four_make n g))
+    go : (b : Bool) → pointwise nat_eq m.words n.words ≡ b → b ≡ eqb (word_of m) (word_of n)
+    go true e = sym (eq-eqb _ _ (ap (λ (w : List ℕ). word_of (record { words = w })) (same_text _ _ (sym e))))
+    go false e = sym (ne_eqb _ _ (λ h. other_text _ _ (sym e) (ap (λ (x : Marks). x.words) (from_number h))))

@@ -2,12 +2,10 @@
 -- Assumes nothing.
 use Prim.Native.Nat.{ℕ, zero, suc, ◌+◌, ◌-◌, ◌*◌, ◌/◌, ◌%◌, ◌^◌, ◌≤◌, ◌<◌, min}
 use mathlib.Core.Path.{◌≡◌, refl, sym, ap, ap₂, ◌∙◌}
-use mathlib.Core.Bool.{false, ◌&&◌}
+use mathlib.Core.Bool.{false}
 use mathlib.Core.List.{List, [], ◌∷◌}
 use native.Mathlib.Nat.{add-zero, mul-zero, mul-one, mul-suc, le_refl, lt_of_le_of_lt, mod-le, mod-one, zero-mod, mod-lt, mod-eq_of_lt, min-eq_left, min-eq_right, mul_assoc, mul_comm, add-mul, mul-mod_left, mul-add-mod_self_right}
-use native.Nat.{ℕᴺ_discrete}
 use native.Mathlib.Decide.{dec_le}
-use borrow.Author.Tests.{eq-eqb, ne_eqb}
 use native.Mathlib.Omega.{arith}
 use lib.Dec.{eqb}
 use lib.ListN.{length, take, get_or, set}
@@ -237,14 +235,3 @@ move_move k v p q n e =
     ap (λ (z : ℕ). z * 2 ^ q) (sym (pow.split a k)) ∙ add-mul (a / 2 ^ k * 2 ^ k) (a % 2 ^ k) (2 ^ q) ∙ ap (λ (z : ℕ). z + a % 2 ^ k * 2 ^ q) swap in
     sym (mul-add-mod_self_right (a / 2 ^ k * 2 ^ q) (2 ^ k) (a % 2 ^ k * 2 ^ q))
     ∙ ap (λ (z : ℕ). z % 2 ^ k) (sym whole ∙ mul_assoc v (2 ^ p) (2 ^ q) ∙ ap (λ (z : ℕ). v * z) (sym (pow-add 2 p q) ∙ ap (λ (z : ℕ). 2 ^ z) e))
-
--- ---- equal as numbers where equal word by word
-
-pub same_step : (b p q x y : ℕ) → x < 2 ^ b → y < 2 ^ b → (eqb p q && eqb x y) ≡ eqb (p * 2 ^ b + x) (q * 2 ^ b + y)
-same_step b p q x y hx hy = go (ℕᴺ_discrete p q) (ℕᴺ_discrete x y)
-  where
-    go : Dec (p ≡ q) → Dec (x ≡ y) → (eqb p q && eqb x y) ≡ eqb (p * 2 ^ b + x) (q * 2 ^ b + y)
-    go (yes e) (yes f) = simp (eq-eqb p q e, eq-eqb x y f, eq-eqb _ _ (ap₂ (λ (u v : ℕ). u * 2 ^ b + v) e f))
-    go (yes e) (no f) =
-        simp (eq-eqb p q e, ne_eqb x y f, ne_eqb _ _ (λ g. f (sym (low p b hx) ∙ ap (λ (u : ℕ). u % 2 ^ b) g ∙ low q b hy)))
-    go (no e) d = simp (ne_eqb p q e, ne_eqb _ _ (λ g. e (sym (high p b hx) ∙ ap (λ (u : ℕ). u / 2 ^ b) g ∙ high q b hy)))

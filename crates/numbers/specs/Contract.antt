@@ -1,13 +1,14 @@
 -- What the calls of the declared window answer, by the definitions of `Number` and `Window`.
 -- Assumes nothing.
-use Rattle.std.specs.Prelude.{ℕ, min, max, Bool, ◌&&◌, eqb}
+use Rattle.std.specs.Prelude.{ℕ, min, max, Bool, ◌&&◌, eqb, Result}
 use Rattle.answers.specs.Table.{first, given}
+use Rattle.answers.specs.Answer.{code_of, or_none}
+use Rattle.answers.specs.declared.refusal.Refusal.{Refusal}
 use Rattle.numbers.specs.Number.{nearest, number_rows}
 use Rattle.numbers.specs.Word.{most, word_of, marks_of}
 use Rattle.numbers.specs.Window.{marked, mark_next, mark_word, sound, gaps}
 use Rattle.numbers.specs.declared.window.Rule.{Rule}
 use Rattle.numbers.specs.declared.window.Window.{Window}
-use Rattle.numbers.specs.declared.window.Placed.{Placed}
 
 -- the width that the calls go by, from 1 to what the word has
 unfoldable pub width_of : Rule → ℕ
@@ -32,6 +33,15 @@ seen_by s = marked s.next (word_of s.marks)
 -- a state that marking can reach
 unfoldable pub sound_window : Rule → Window → Bool
 sound_window r s = sound (width_of r) r.limit s.next (word_of s.marks)
+
+-- the answer to a partial number: 0 and the whole number, or the number of a refusal and 0
+pub record Placed : Type 0 where
+  pub answer : ℕ
+  pub number : ℕ
+
+-- what a result is, as numbers
+abbrev pub as_placed : Result ℕ Refusal → Placed
+as_placed r = record { answer = code_of r; number = or_none 0 r }
 
 -- a refusal, with no number
 abbrev pub no_place : ℕ → Placed

@@ -4,9 +4,8 @@
 use Rattle.std.specs.Prelude.{ℕ, ◌-◌, ◌^◌, cond, List, [], ◌∷◌, eqb}
 use Rattle.answers.specs.Refusal as Refusal
 use Rattle.numbers.specs.Number.{nearest}
-use Rattle.numbers.specs.Contract.{window_of, placed}
+use Rattle.numbers.specs.Contract.{Placed, window_of, placed}
 use Rattle.numbers.specs.declared.window.Rule.{Rule}
-use Rattle.numbers.specs.declared.window.Placed.{Placed}
 
 -- meant is the number before the window check
 pub record Row : Type 0 where

@@ -5,4 +5,4 @@ mod marks;
 mod window;
 
 pub use marks::Marks;
-pub use window::{Placed, Rule, Window};
+pub use window::{Rule, Window};

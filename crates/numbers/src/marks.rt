@@ -7,7 +7,7 @@ ghost use Rattle.numbers.specs.Word.{most, bit, set_bit, word_of, marks_of};
 
 // Bit i of the number is bit i % 64 of word i / 64.
 #[repr(C)]
-#[derive(Clone, Copy)]
+#[derive(Clone, Copy, PartialEq, Eq)]
 pub struct Marks {
     pub words: [u64; 4],
 }
@@ -59,22 +59,13 @@ impl Marks {
         ensures { result ≡ marks_of (word_of self * 2 ^ (64 * by) % 2 ^ most) }
     {
         let w = self.words;
-        if by == 1 {
-            return Marks {
-                words: [0, w[0], w[1], w[2]],
-            };
-        }
-        if by == 2 {
-            return Marks {
-                words: [0, 0, w[0], w[1]],
-            };
-        }
-        if by == 3 {
-            return Marks {
-                words: [0, 0, 0, w[0]],
-            };
-        }
-        Marks::none()
+        let words = match by {
+            1 => [0, w[0], w[1], w[2]],
+            2 => [0, 0, w[0], w[1]],
+            3 => [0, 0, 0, w[0]],
+            _ => return Marks::none(),
+        };
+        Marks { words }
     }
 
     // Moved up by any number of bits; what passes the top is lost.
@@ -129,7 +120,7 @@ impl Marks {
         let mut words = self.words;
         let j = (i / Marks::WORD) as usize;
         words[j] = words[j] | 1 << i % Marks::WORD;
-        Marks { words: words }
+        Marks { words }
     }
 
     // Whether bit i is set.
@@ -147,9 +138,7 @@ impl Marks {
     pub fn same(self, other: Marks) -> bool
         ensures { result ≡ eqb (word_of self) (word_of other) }
     {
-        let v = self.words;
-        let w = other.words;
-        (v[3] == w[3]) & (v[2] == w[2]) & (v[1] == w[1]) & (v[0] == w[0])
+        self == other
     }
 
     // How many bits are set.

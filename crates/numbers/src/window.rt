@@ -1,12 +1,13 @@
 // The window of one receive key.
 ghost use Rattle.std.specs.Prelude.{◌≡◌, min};
-ghost use Rattle.numbers.specs.Contract.{width_of, empty_window, is_empty, sound_window, no_place, judged, placed, after, gaps_of};
+ghost use Rattle.numbers.specs.Contract.{width_of, empty_window, is_empty, sound_window, as_placed, judged, placed, after, gaps_of};
 
 use crate::marks::Marks;
 use answers::Refusal;
 
 // What a channel sets for the windows of its keys: how many numbers below next are remembered, and
-// the limit that numbers stay below.
+// the limit that numbers stay below. It goes beside a window and not in it, since C holds the windows
+// and each call has the rule from the setting.
 #[derive(Clone, Copy)]
 pub struct Rule {
     pub width: u64,
@@ -16,44 +17,20 @@ pub struct Rule {
 // next is one more than the highest number marked, 0 where none is. Bit i of marks is set where
 // next - 1 - i is marked.
 #[repr(C)]
-#[derive(Clone, Copy)]
+#[derive(Clone, Copy, PartialEq, Eq)]
 pub struct Window {
     pub next: u64,
     pub marks: Marks,
 }
 
-// The answer to a partial number: 0 and the whole number, or a refusal's number and 0.
-#[derive(Clone, Copy)]
-pub struct Placed {
-    pub answer: u8,
-    pub number: u64,
-}
-
-impl Placed {
-    fn refused(why: u8) -> Placed
-        ensures { result ≡ no_place why }
-    {
-        Placed {
-            answer: why,
-            number: 0,
-        }
-    }
-}
-
 impl Rule {
     // The width that the calls go by: of the others 0 acts as 1, and more than the word has as all
     // of it.
+    #[tactic(auto, unfolding(crate::specs::Contract::width_of))]
     fn span(self) -> u64
         ensures { result ≡ width_of self }
     {
-        let width = self.width;
-        if width == 0 {
-            return 1;
-        }
-        if Window::WIDTH < width {
-            return Window::WIDTH;
-        }
-        width
+        self.width.clamp(1, Window::WIDTH)
     }
 }
 
@@ -65,39 +42,27 @@ impl Window {
     const TURN: u64 = 65536;
 
     // The last number of 64 bits.
-    const LAST: u64 = 18446744073709551615;
+    const LAST: u64 = u64::MAX;
 
     pub fn empty() -> Window
         ensures { result ≡ empty_window }
     {
         let marks = Marks::none();
-        Window {
-            next: 0,
-            marks: marks,
-        }
+        Window { next: 0, marks }
     }
 
     // Whether nothing is marked and nothing else is in it.
     pub fn is_empty(self) -> bool
         ensures { result ≡ is_empty self }
     {
-        let next = self.next;
-        let marks = self.marks;
-        let none = Marks::none();
-        let same = marks.same(none);
-        (next == 0) & same
+        self == Window::empty()
     }
 
     // How many numbers below next the window remembers.
     fn held(self, rule: Rule) -> u64
         ensures { result ≡ min (width_of rule) self.next }
     {
-        let next = self.next;
-        let width = rule.span();
-        if width <= next {
-            return width;
-        }
-        next
+        rule.span().min(self.next)
     }
 
     // Whether this is a state that marking can reach under the rule.
@@ -117,11 +82,11 @@ impl Window {
     // The number of a record with these low 16 bits, or why it is refused. RFC 9147, 4.2.2: of the
     // numbers on either side of next with these bits the nearer; on a tie the lower, and never a
     // negative one.
-    pub fn place(self, rule: Rule, low: u16) -> Placed
-        ensures { result ≡ placed rule self low }
+    pub fn place(self, rule: Rule, low: u16) -> Result<u64, Refusal>
+        ensures { as_placed result ≡ placed rule self low }
     {
         let next = self.next;
-        let up = (low as u64 + Window::TURN - next % Window::TURN) % Window::TURN;
+        let up = (u64::from(low) + Window::TURN - next % Window::TURN) % Window::TURN;
         let down = Window::TURN - up;
         if down <= up {
             let negative = next < down;
@@ -131,41 +96,35 @@ impl Window {
             }
         }
         if Window::LAST - next < up {
-            return Placed::refused(Refusal::SPENT);
+            return Err(Refusal::Spent);
         }
         let above = next + up;
         self.judge(rule, above)
     }
 
     // What becomes of a record with the number n.
-    pub fn judge(self, rule: Rule, n: u64) -> Placed
-        ensures { result ≡ judged rule self n }
+    pub fn judge(self, rule: Rule, n: u64) -> Result<u64, Refusal>
+        ensures { as_placed result ≡ judged rule self n }
     {
         let next = self.next;
         let marks = self.marks;
         let limit = rule.limit;
         if limit <= n {
-            return Placed::refused(Refusal::SPENT);
+            return Err(Refusal::Spent);
         }
         if next <= n {
-            return Placed {
-                answer: 0,
-                number: n,
-            };
+            return Ok(n);
         }
         let behind = next - 1 - n;
         let reach = rule.span();
         if reach <= behind {
-            return Placed::refused(Refusal::OLD);
+            return Err(Refusal::Old);
         }
         let seen = marks.test(behind);
         if seen {
-            return Placed::refused(Refusal::REPEAT);
+            return Err(Refusal::Repeat);
         }
-        Placed {
-            answer: 0,
-            number: n,
-        }
+        Ok(n)
     }
 
     // The window after n is marked.
@@ -193,10 +152,7 @@ impl Window {
             return self;
         }
         let set = marks.set(behind);
-        Window {
-            next: next,
-            marks: set,
-        }
+        Window { next, marks: set }
     }
 
     // How many of the last numbers below next, as many as the window remembers, are unmarked.

@@ -8,7 +8,8 @@ use Rattle.numbers.proofs.window.Window.place.Goals.{then-down-up+else-not-negat
 
 pub returns-then-not-negative : goal.returns-then-not-negative
 unfolding up down
-returns-then-not-negative c = placed_at _ _ _ c.judge.ensures (below_is _ _ (omega arith) (omega arith))
+returns-then-not-negative c =
+    rw c.from.ensures at (placed_at _ _ _ c.judge.ensures (below_is _ _ (omega arith) (omega arith)))
 
 pub returns-then-next-up : goal.returns-then-next-up
 unfolding up down
@@ -17,11 +18,12 @@ returns-then-next-up c =
     let h =
     above_is a.self.next a.low
     (elim c.if-down-up.branch [ then-down-up+else-not-negative w ↦ inr (omega arith) | else-down-up w ↦ inl (omega arith) ]) in
-    placed_spent _ _ _ c.refused.ensures (omega arith)
+    placed_spent _ _ _ (omega arith)
 
 pub returns : goal.returns
 unfolding up down
 returns c =
-    placed_at _ _ _ c.judge-2.ensures
+    rw c.from.ensures at
+    (placed_at _ _ _ c.judge-2.ensures
     (above_is _ _
-    (elim c.if-down-up.branch [ then-down-up+else-not-negative w ↦ inr (omega arith) | else-down-up w ↦ inl (omega arith) ]))
+    (elim c.if-down-up.branch [ then-down-up+else-not-negative w ↦ inr (omega arith) | else-down-up w ↦ inl (omega arith) ])))
