@@ -1,6 +1,16 @@
 -- Two answers that a contract of this crate allows are one.
 -- Assumes nothing.
+use mathlib.Core.Path.{◌≡◌, ap}
+use Rattle.std.specs.Prelude.{Result}
+use Rattle.answers.specs.declared.refusal.Refusal.{Refusal}
+use Rattle.answers.proofs.Answer.{answer_once}
 use Rattle.answers.proofs.OneAnswer.{OneAnswer, one}
+use Rattle.numbers.proofs.Laws.{placed_once}
+use Rattle.record.specs.declared.reader.Record.{Record}
+use Rattle.record.specs.declared.writer.Form.{Form}
+use Rattle.record.specs.Read.{Reading}
+use Rattle.record.specs.Write.{Formed}
+use Rattle.record.specs.Told.{as_reading, as_formed}
 use Rattle.record.proofs.setting.Setting.zeros.Reads as zeros
 use Rattle.record.proofs.setting.Setting.auth_only.Reads as auth-only
 use Rattle.record.proofs.setting.Setting.number_first.Reads as number-first
@@ -8,13 +18,23 @@ use Rattle.record.proofs.setting.Setting.has_partial.Reads as has-partial
 use Rattle.record.proofs.setting.Setting.is_bad.Reads as is-bad
 use Rattle.record.proofs.setting.Setting.rule.Reads as rule
 use Rattle.record.proofs.nonces.nonce.Reads as nonce
-use Rattle.record.proofs.reader.Record.read.Reads as read
-use Rattle.record.proofs.reader.place.Reads as place
-use Rattle.record.proofs.shape.data_len.Reads as data-len
-use Rattle.record.proofs.shape.inner_bad.Reads as inner-bad
+use Rattle.record.proofs.incoming.Incoming.read.Reads as read
+use Rattle.record.proofs.incoming.Incoming.place.Reads as place
+use Rattle.record.proofs.incoming.Incoming.data_len.Reads as data-len
+use Rattle.record.proofs.incoming.Incoming.inner_bad.Reads as inner-bad
 use Rattle.record.proofs.views.view.Reads as view
 use Rattle.record.proofs.writer.Form.plan.Reads as plan
 use Rattle.record.proofs.writer.write.Reads as write
+
+-- results that are the same numbers are one
+reading_once : (x y : Result Record Refusal) → as_reading x ≡ as_reading y → x ≡ y
+reading_once x y e =
+    answer_once _ x y (ap (λ (r : Reading). r.answer) e)
+    (ap (λ (r : Reading). record { assoc = r.assoc; text = r.text; plain = r.plain; place = r.place }) e)
+
+pub formed_once : (x y : Result Form Refusal) → as_formed x ≡ as_formed y → x ≡ y
+formed_once x y e =
+    answer_once _ x y (ap (λ (f : Formed). f.answer) e) (ap (λ (f : Formed). record { assoc = f.assoc; text = f.text; total = f.total }) e)
 
 pub zeros_one : OneAnswer zeros.Post (λ κs x s. x)
 zeros_one κs a x y s t p q = one p q
@@ -38,10 +58,10 @@ pub nonce_one : OneAnswer nonce.Post (λ κs x s. x)
 nonce_one κs a x y s t p q = one p q
 
 pub read_one : OneAnswer read.Post (λ κs x s. x)
-read_one κs a x y s t p q = one p q
+read_one κs a x y s t p q = reading_once x y (one p q)
 
 pub place_one : OneAnswer place.Post (λ κs x s. x)
-place_one κs a x y s t p q = one p q
+place_one κs a x y s t p q = placed_once x y (one p q)
 
 pub data_len_one : OneAnswer data-len.Post (λ κs x s. x)
 data_len_one κs a x y s t p q = one p q
@@ -54,8 +74,11 @@ pub view_one : OneAnswer view.Post (λ κs x s. x.now)
 view_one κs a x y s t p q = one p q
 
 pub plan_one : OneAnswer plan.Post (λ κs x s. x)
-plan_one κs a x y s t p q = one p q
+plan_one κs a x y s t p q = formed_once x y (one p q)
 
--- the buffer at exit
+-- the answer, and the buffer at exit
+pub write_form_one : OneAnswer write.Post (λ κs x s. x)
+write_form_one κs a x y s t p q = formed_once x y (one p.0 q.0)
+
 pub write_one : OneAnswer write.Post (λ κs x s. s.1.1.1.1.0.now)
-write_one κs a x y s t p q = one p q
+write_one κs a x y s t p q = one p.1 q.1

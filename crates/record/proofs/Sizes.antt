@@ -14,7 +14,7 @@ use Rattle.answers.proofs.Table.{row_passed}
 use Rattle.octets.specs.Fields.{little}
 use Rattle.octets.proofs.Endian.{little_length}
 use Rattle.record.specs.declared.setting.Setting.{Setting}
-use Rattle.record.specs.declared.writer.Form.{Form}
+use Rattle.record.specs.Write.{Formed}
 use Rattle.record.specs.Setting.{auth_only}
 use Rattle.record.specs.Shape.{head_len, mac_len, inner_len, least, total_of, start_of, text_end, assoc_end, plain_len, data_len}
 use Rattle.record.specs.Header.{session_of, length_of, head_of}
@@ -62,7 +62,7 @@ ends_equal_for s p q a = rw a
 
 -- the total that Build answers
 pub total_is_length : (s : Setting) (p q : ℕ) → (form_of s p q).answer ≡ 0 → (form_of s p q).total ≡ head_len s + length_for s p q
-total_is_length s p q h = ap (λ (f : Form). f.total) (form_is s p q (form_of s p q) refl h) ∙ add_assoc (head_len s) (body_len s p q) (mac_len s)
+total_is_length s p q h = ap (λ (f : Formed). f.total) (form_is s p q (form_of s p q) refl h) ∙ add_assoc (head_len s) (body_len s p q) (mac_len s)
 
 -- a record that passes the checks 4 to 7
 module _ (s : Setting) (r : List ℕ) (e : first (record_rows s r) ≡ 0) where

@@ -1,6 +1,7 @@
 -- The zeros of a setting are no setting of a channel.
 -- Assumes nothing.
-use mathlib.Core.Bool.{true}
+use mathlib.Core.Bool.{true, ◌&&◌, and_assoc}
+use lib.Dec.{eqb}
 use mathlib.Core.Path.{◌≡◌, refl, ap, ◌∙◌}
 use borrow.Author.Tests.{eq-eqb}
 use Rattle.answers.specs.Refusal as Refusal
@@ -65,3 +66,10 @@ same_setting_lem s t =
 pub zero_setting_lem : (s : Setting) → Tells (is_zero_setting s) (s ≡ zero_setting)
 unfolding is_zero_setting
 zero_setting_lem s = same_setting_lem s zero_setting
+
+-- the test of `==`, which nests the other way
+pub setting_test : (s t : Setting)
+    → (eqb s.mode t.mode && (eqb s.layout t.layout && (eqb s.mac t.mac && (eqb s.profile t.profile && (eqb s.width t.width && (eqb s.session t.session && eqb s.limit t.limit))))))
+    ≡ same_setting s t
+unfolding same_setting
+setting_test s t = simp and_assoc

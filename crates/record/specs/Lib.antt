@@ -5,4 +5,5 @@ pub mod Nonce
 pub mod Read
 pub mod View
 pub mod Write
+pub mod Told
 pub mod Reasons

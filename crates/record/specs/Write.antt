@@ -6,7 +6,6 @@ use Rattle.answers.specs.Table.{Check, first, given, differ}
 use Rattle.octets.specs.Fields.{little}
 use Rattle.octets.specs.Parts.{over}
 use Rattle.record.specs.declared.setting.Setting.{Setting}
-use Rattle.record.specs.declared.writer.Form.{Form}
 use Rattle.record.specs.Setting.{auth_only}
 use Rattle.record.specs.Header.{head_of}
 use Rattle.record.specs.Shape.{head_len, mac_len, inner_len, most_length}
@@ -36,18 +35,29 @@ form_rows s p q =
     ∷ (ltb (most_length s) (length_for s p q), Refusal.size)
     ∷ []
 
-abbrev pub no_form : ℕ → Form
+-- a form as numbers: 0 and what a record will have, or the number of a refusal and zeros
+pub record Formed : Type 0 where
+  pub answer : ℕ
+  pub assoc : ℕ
+  pub text : ℕ
+  pub total : ℕ
+
+abbrev pub no_form : ℕ → Formed
 no_form why = record { answer = why; assoc = 0; text = 0; total = 0 }
 
-unfoldable pub form_of : Setting → ℕ → ℕ → Form
-form_of s p q =
-    given (first (form_rows s p q))
-    (record { answer = 0; assoc = assoc_end_for s p q; text = text_end_for s p q; total = total_for s p q })
-    no_form
+abbrev pub good_form : Setting → ℕ → ℕ → Formed
+good_form s p q = record { answer = 0; assoc = assoc_end_for s p q; text = text_end_for s p q; total = total_for s p q }
+
+unfoldable pub form_of : Setting → ℕ → ℕ → Formed
+form_of s p q = given (first (form_rows s p q)) (good_form s p q) no_form
 
 -- 17: a buffer of this many bytes is too short
 unfoldable pub room_rows : Setting → ℕ → ℕ → ℕ → List Check
 room_rows s p q room = (ltb room (total_for s p q), Refusal.room) ∷ []
+
+-- the form, where there is room for it too
+unfoldable pub write_of : Setting → ℕ → ℕ → ℕ → Formed
+write_of s p q room = given (first (form_rows s p q ++ room_rows s p q room)) (good_form s p q) no_form
 
 -- ---- its bytes
 

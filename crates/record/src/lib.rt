@@ -2,16 +2,17 @@
 #![tactic(auto)]
 
 mod header;
+mod incoming;
+mod lengths;
 mod nonces;
 mod reader;
 mod setting;
-mod shape;
 mod views;
 mod writer;
 
+pub use incoming::Incoming;
 pub use nonces::nonce;
-pub use reader::{Record, place};
+pub use reader::Record;
 pub use setting::Setting;
-pub use shape::{data_len, inner_bad};
 pub use views::view;
 pub use writer::{Form, write};

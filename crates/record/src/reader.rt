@@ -1,89 +1,60 @@
 // Reading a record, and finding its number.
-ghost use Rattle.std.specs.Prelude.{◌≡◌};
-ghost use Rattle.record.specs.Read.{no_record, read_of, place_of};
+#![tactic(auto, unfolding(crate::specs::Read::read_of, crate::specs::Read::record_rows, crate::specs::Read::place_of, crate::specs::Read::place_rows, crate::specs::Header::number_of, numbers::specs::Contract::placed, numbers::specs::Contract::judged))]
 
-use crate::setting::Setting;
-use crate::{header, shape};
+ghost use Rattle.std.specs.Prelude.{◌≡◌};
+ghost use Rattle.record.specs.Read.{read_of, place_of};
+ghost use Rattle.record.specs.Told.{as_reading};
+ghost use Rattle.numbers.specs.Contract.{as_placed};
+
+use crate::incoming::Incoming;
 use answers::Refusal;
-use numbers::{Placed, Window};
+use numbers::Window;
 
 // What is read of a record before any key is looked at: the ends of the associated data and of the
 // text, the length of the plaintext buffer, and the place of the data.
 #[derive(Clone, Copy)]
 pub struct Record {
-    pub answer: u8,
     pub assoc: u64,
     pub text: u64,
     pub plain: u64,
     pub place: u64,
 }
 
-impl Record {
-    // The header's length, and without a partial number.
-    pub const HEADER: u64 = 8;
-
-    pub const BARE_HEADER: u64 = 6;
-
-    // The longest MAC.
-    pub const MAC: u64 = 16;
-
-    // The length of the field before the data in mode 1.
-    pub const INNER: u64 = 2;
-
-    // The largest Length.
-    pub const MOST: u64 = 65535;
-
-    fn refused(why: u8) -> Record
-        ensures { result ≡ no_record why }
-    {
-        Record {
-            answer: why,
-            assoc: 0,
-            text: 0,
-            plain: 0,
-            place: 0,
-        }
-    }
-
+impl<'a> Incoming<'a> {
     // The checks that take no key: 4 to 7.
-    pub fn read(setting: Setting, rec: &[u8]) -> Record
-        ensures { result ≡ read_of setting rec.now }
+    pub fn read(self) -> Result<Record, Refusal>
+        ensures { as_reading result ≡ read_of self.entry.setting self.entry.rec.now }
     {
-        let size = rec.len() as u64;
-        let short = size < shape::head_len(setting);
-        if short {
-            return Record::refused(Refusal::SHORT);
+        let size = self.rec.len() as u64;
+        if size < self.setting.head_len() {
+            return Err(Refusal::Short);
         }
-        let other = header::session_of(setting, rec) != setting.session;
-        if other {
-            return Record::refused(Refusal::SESSION);
+        if self.session() != self.setting.session {
+            return Err(Refusal::Session);
         }
-        let uneven = size != shape::total_of(setting, rec);
-        if uneven {
-            return Record::refused(Refusal::LENGTH);
+        if size != self.total() {
+            return Err(Refusal::Length);
         }
-        let small = (header::length_of(setting, rec) as u64) < shape::least(setting);
-        if small {
-            return Record::refused(Refusal::SMALL);
+        if u64::from(self.length()) < self.setting.least() {
+            return Err(Refusal::Small);
         }
-        Record {
-            answer: 0,
-            assoc: shape::assoc_end(setting, rec),
-            text: shape::text_end(setting, rec),
-            plain: shape::plain_len(setting, rec),
-            place: shape::data_place(setting, rec),
-        }
+        Ok(Record {
+            assoc: self.assoc_end(),
+            text: self.text_end(),
+            plain: self.plain_len(),
+            place: self.data_place(),
+        })
     }
-}
 
-// A record's number for the key with this window, or why it is refused: 8 to 10.
-pub fn place(setting: Setting, window: Window, rec: &[u8]) -> Placed
-    ensures { result ≡ place_of setting window rec.now }
-{
-    let rule = setting.rule();
-    let partial = setting.has_partial();
-    if partial {
-        return window.place(rule, header::partial_of(setting, rec));
+    // Its number for the key with this window, or why it is refused: 8 to 10.
+    pub fn place(self, window: Window) -> Result<u64, Refusal>
+        ensures { as_placed result ≡ place_of self.entry.setting window self.entry.rec.now }
+    {
+        let rule = self.setting.rule();
+        if self.setting.has_partial() {
+            window.place(rule, self.partial())
+        } else {
+            window.judge(rule, window.next)
+        }
     }
-    window.judge(rule, window.next)
 }

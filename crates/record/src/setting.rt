@@ -7,9 +7,10 @@ use numbers::Rule;
 // Mode 0 is message authentication only, mode 1 encryption and authentication. Layout 0 has the
 // number in the first bytes of a nonce, layout 1 in the last. The MAC has 8, 12 or 16 bytes. Profile 0
 // sends the low 16 bits of the number, profile 1 none of it. A window remembers 64, 128, 192 or 256
-// numbers. Usable numbers are those below the limit.
+// numbers. Usable numbers are those below the limit. The kinds are numbers and no enums, since C holds
+// the setting and every value has to be answered for.
 #[repr(C)]
-#[derive(Clone, Copy)]
+#[derive(Clone, Copy, PartialEq, Eq)]
 pub struct Setting {
     pub mode: u8,
     pub layout: u8,
@@ -68,11 +69,12 @@ impl Setting {
     }
 
     // The rule of its keys.
+    #[tactic(auto, unfolding(crate::specs::Setting::window_width))]
     pub fn rule(self) -> Rule
         ensures { result ≡ rule_of self }
     {
         Rule {
-            width: self.width as u64,
+            width: u64::from(self.width),
             limit: self.limit,
         }
     }

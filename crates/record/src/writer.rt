@@ -1,131 +1,111 @@
 // Writing a record.
-ghost use Rattle.std.specs.Prelude.{◌≡◌, ◌+◌, ◌≤◌, ◌++◌, length, ltb};
-ghost use Rattle.octets.specs.Fields.{little};
+ghost use Rattle.std.specs.Prelude.{◌≡◌, ◌+◌, ◌≤◌, length, ltb};
 ghost use Rattle.octets.specs.Parts.{over};
-ghost use Rattle.record.specs.Shape.{head_len, inner_len, most_length};
-ghost use Rattle.record.specs.Write.{body_len, length_for, no_form, form_of, written};
+ghost use Rattle.record.specs.Shape.{head_len, most_length};
+ghost use Rattle.record.specs.Write.{body_len, body_of, length_for, form_of, write_of, written};
+ghost use Rattle.record.specs.Told.{as_formed};
 
+use crate::header;
 use crate::setting::Setting;
-use crate::{header, shape};
 use answers::Refusal;
 
 // The form of a record that is to be built: the ends of its associated data, of its text, and its
 // own.
 #[derive(Clone, Copy)]
 pub struct Form {
-    pub answer: u8,
     pub assoc: u64,
     pub text: u64,
     pub total: u64,
 }
 
 // Whether the Length would be more than its field holds.
+#[tactic(auto, using(crate::proofs::Forms::mac_most, crate::proofs::Forms::inner_most, crate::proofs::Forms::length_most), unfolding(crate::specs::Write::body_len))]
 fn oversize(setting: Setting, p: u64, q: u64) -> bool
     ensures { result ≡ ltb (most_length setting) (length_for setting p q) }
 {
-    let most = shape::most_length(setting);
-    let mac = shape::mac_len(setting);
+    let most = setting.most_length();
+    let mac = setting.mac_len();
     if most < p {
         return true;
     }
-    let clear = setting.auth_only();
-    if clear {
+    if setting.auth_only() {
         return most < p + mac;
     }
     if most < q {
         return true;
     }
-    most < shape::inner_len(setting) + p + q + mac
+    most < setting.inner_len() + p + q + mac
 }
 
+#[tactic(auto, using(crate::proofs::Forms::mac_most, crate::proofs::Forms::inner_most, crate::proofs::Forms::length_most), unfolding(crate::specs::Write::body_len))]
 fn body_len(setting: Setting, p: u64, q: u64) -> u64
     requires { length_for setting p q ≤ most_length setting }
     ensures { result ≡ body_len setting p q }
 {
-    let clear = setting.auth_only();
-    if clear {
-        return p;
+    if setting.auth_only() {
+        p
+    } else {
+        setting.inner_len() + p + q
     }
-    shape::inner_len(setting) + p + q
 }
 
 impl Form {
-    fn refused(why: u8) -> Form
-        ensures { result ≡ no_form why }
-    {
-        Form {
-            answer: why,
-            assoc: 0,
-            text: 0,
-            total: 0,
-        }
-    }
-
     // For p bytes of data and q random bytes. The checks 15 and 16.
-    pub fn plan(setting: Setting, p: u64, q: u64) -> Form
-        ensures { result ≡ form_of setting p q }
+    #[tactic(auto, using(crate::proofs::Heads::head_most, crate::proofs::Forms::mac_most, crate::proofs::Forms::length_most), unfolding(crate::specs::Write::form_of, crate::specs::Write::form_rows, crate::specs::Write::assoc_end_for))]
+    pub fn plan(setting: Setting, p: u64, q: u64) -> Result<Form, Refusal>
+        ensures { as_formed result ≡ form_of setting p q }
     {
         let clear = setting.auth_only();
-        let padded = clear & (q != 0);
-        if padded {
-            return Form::refused(Refusal::PADDING);
+        if clear && q != 0 {
+            return Err(Refusal::Padding);
         }
-        let big = oversize(setting, p, q);
-        if big {
-            return Form::refused(Refusal::SIZE);
+        if oversize(setting, p, q) {
+            return Err(Refusal::Size);
         }
-        let head = shape::head_len(setting);
+        let head = setting.head_len();
         let text = head + body_len(setting, p, q);
-        let total = text + shape::mac_len(setting);
-        if clear {
-            return Form {
-                answer: 0,
-                assoc: text,
-                text: text,
-                total: total,
-            };
-        }
-        Form {
-            answer: 0,
-            assoc: head,
-            text: text,
-            total: total,
-        }
+        let total = text + setting.mac_len();
+        let assoc = if clear { text } else { head };
+        Ok(Form { assoc, text, total })
     }
 }
 
-// The data length, the data and the random bytes behind the header.
-fn put_sealed(setting: Setting, app: &[u8], random: &[u8], out: &mut [u8])
-    requires { head_len setting + (inner_len setting + length app.now + length random.now) ≤ length out.old }
-    ensures { out.new ≡ over out.old (head_len setting) (little (inner_len setting) (length app.now) ++ app.now ++ random.now) }
+// What stands between the header and the MAC: the data, and in mode 1 its length before it and the
+// random bytes behind it.
+fn put_body(setting: Setting, app: &[u8], random: &[u8], out: &mut [u8])
+    requires { head_len setting + body_len setting (length app.now) (length random.now) ≤ length out.old }
+    ensures { out.new ≡ over out.old (head_len setting) (body_of setting app.now random.now) }
 {
-    let at = shape::head_len(setting) as usize;
+    let at = setting.head_len() as usize;
+    if setting.auth_only() {
+        octets::put(out, at, app);
+        return;
+    }
     octets::put_little16(out, at, app.len() as u64);
-    let a1 = at + shape::inner_len(setting) as usize;
+    let a1 = at + setting.inner_len() as usize;
     octets::put(out, a1, app);
     let a2 = a1 + app.len();
     octets::put(out, a2, random);
 }
 
-// All of a record but its MAC at the start of `out`, or nothing where the form is refused or there
-// is no room.
-pub fn write(setting: Setting, number: u64, app: &[u8], random: &[u8], out: &mut [u8])
-    ensures { out.new ≡ written setting number app.now random.now out.old }
+// All of a record but its MAC at the start of `out`, where the form is good and there is room for
+// it: the checks 15 to 17.
+pub fn write(
+    setting: Setting,
+    number: u64,
+    app: &[u8],
+    random: &[u8],
+    out: &mut [u8],
+) -> Result<Form, Refusal>
+    ensures form { as_formed result ≡ write_of setting (length app.now) (length random.now) (length out.old) }
+    ensures bytes { out.new ≡ written setting number app.now random.now out.old }
 {
-    let form = Form::plan(setting, app.len() as u64, random.len() as u64);
-    if form.answer != 0 {
-        return;
+    let form = Form::plan(setting, app.len() as u64, random.len() as u64)?;
+    if (out.len() as u64) < form.total {
+        return Err(Refusal::Room);
     }
-    let short = (out.len() as u64) < form.total;
-    if short {
-        return;
-    }
-    let head = shape::head_len(setting);
+    let head = setting.head_len();
     header::put_head(setting, number, form.total - head, out);
-    let clear = setting.auth_only();
-    if clear {
-        octets::put(out, head as usize, app);
-        return;
-    }
-    put_sealed(setting, app, random, out);
+    put_body(setting, app, random, out);
+    Ok(form)
 }
