@@ -7,7 +7,7 @@ use Rattle.answers.specs.Refusal as Refusal
 use Rattle.answers.specs.Table.{first}
 use Rattle.answers.proofs.Given.{given_no, why_is}
 use Rattle.answers.proofs.Table.{first_within}
-use Rattle.mctp.specs.declared.application.Data.{Data}
+use Rattle.mctp.specs.declared.ffi.Data.{Data}
 use Rattle.mctp.specs.Kind.{integrity_of, kind_of}
 use Rattle.mctp.specs.Led.{lead}
 use Rattle.mctp.specs.Application.{no_data, unwrap_rows, read_data}

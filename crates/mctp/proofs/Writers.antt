@@ -14,7 +14,7 @@ use Rattle.answers.proofs.Given.{given_ok, given_no, why_is}
 use Rattle.answers.proofs.Table.{within, first_within}
 use Rattle.answers.proofs.Tests.{by_cases}
 use Rattle.octets.specs.Parts.{over}
-use Rattle.mctp.specs.declared.led.Wrote.{Wrote}
+use Rattle.mctp.specs.declared.ffi.Wrote.{Wrote}
 use Rattle.mctp.specs.Led.{none_wrote, room_rows, writes}
 use Rattle.mctp.specs.Application.{data_of, wrap_rows, wrap_data}
 use Rattle.mctp.specs.Message.{message_of, wrap_record}

@@ -1,10 +1,13 @@
 -- Application data: one byte, of E-IC and the encapsulated type, and then the body.
 -- Assumes nothing.
-use Rattle.std.specs.Prelude.{ℕ, Bool, false, ◌||◌, List, [], ◌∷◌, ltb, eqb, length}
+use Rattle.std.specs.Prelude.{ℕ, Bool, false, ◌||◌, List, [], ◌∷◌, Result, ltb, eqb, length}
 use Rattle.answers.specs.Refusal as Refusal
+use Rattle.answers.specs.Answer.{code_of, or_none}
+use Rattle.answers.specs.declared.refusal.Refusal.{Refusal}
 use Rattle.answers.specs.Table.{Check, first, given}
-use Rattle.mctp.specs.declared.application.Data.{Data}
-use Rattle.mctp.specs.declared.led.Wrote.{Wrote}
+use Rattle.mctp.specs.declared.application.Header.{Header}
+use Rattle.mctp.specs.declared.ffi.Data.{Data}
+use Rattle.mctp.specs.declared.ffi.Wrote.{Wrote}
 use Rattle.mctp.specs.Kind as Kind
 use Rattle.mctp.specs.Kind.{byte_of, integrity_of, kind_of}
 use Rattle.mctp.specs.Led.{room_rows, writes, lead, behind}
@@ -30,6 +33,14 @@ unwrap_rows app = (eqb (length app) 0 || eqb (kind_of (lead app)) Kind.barred, R
 
 abbrev pub no_data : ℕ → Data
 no_data why = record { answer = why; integrity = false; kind = 0 }
+
+-- the header of zeros
+abbrev pub no_header : Header
+no_header = record { integrity = false; kind = 0 }
+
+-- what a result is, as numbers
+abbrev pub as_data : Result Header Refusal → Data
+as_data r = record { answer = code_of r; integrity = (or_none no_header r).integrity; kind = (or_none no_header r).kind }
 
 unfoldable pub read_data : List ℕ → Data
 read_data app =

@@ -1,13 +1,19 @@
 -- Writing bytes at the start of a buffer, and handing back all behind a first byte.
 -- Assumes nothing.
-use Rattle.std.specs.Prelude.{ℕ, List, [], ◌∷◌, ltb, length, drop, get_or}
+use Rattle.std.specs.Prelude.{ℕ, List, [], ◌∷◌, Result, ltb, length, drop, get_or}
 use Rattle.answers.specs.Refusal as Refusal
+use Rattle.answers.specs.Answer.{code_of, or_none}
+use Rattle.answers.specs.declared.refusal.Refusal.{Refusal}
 use Rattle.answers.specs.Table.{Check, first, given}
 use Rattle.octets.specs.Parts.{over}
-use Rattle.mctp.specs.declared.led.Wrote.{Wrote}
+use Rattle.mctp.specs.declared.ffi.Wrote.{Wrote}
 
 abbrev pub none_wrote : ℕ → Wrote
 none_wrote why = record { answer = why; length = 0 }
+
+-- what a result is, as numbers
+abbrev pub as_wrote : Result ℕ Refusal → Wrote
+as_wrote r = record { answer = code_of r; length = or_none 0 r }
 
 -- the buffer is shorter than the total
 unfoldable pub room_rows : List ℕ → List ℕ → List Check

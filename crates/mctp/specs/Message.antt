@@ -3,7 +3,7 @@
 use Rattle.std.specs.Prelude.{ℕ, ◌||◌, List, [], ◌∷◌, eqb, length}
 use Rattle.answers.specs.Refusal as Refusal
 use Rattle.answers.specs.Table.{Check, first, differ}
-use Rattle.mctp.specs.declared.led.Wrote.{Wrote}
+use Rattle.mctp.specs.declared.ffi.Wrote.{Wrote}
 use Rattle.mctp.specs.Kind as Kind
 use Rattle.mctp.specs.Led.{room_rows, writes, lead, behind}
 

@@ -2,7 +2,7 @@
 -- Assumes nothing.
 use Rattle.std.specs.Prelude.{ℕ, ◌+◌, ◌≤◌, Bool, List, [], ◌∷◌, ◌≡◌, length, take, drop}
 use Rattle.answers.specs.Refusal as Refusal
-use Rattle.mctp.specs.declared.led.Wrote.{Wrote}
+use Rattle.mctp.specs.declared.ffi.Wrote.{Wrote}
 use Rattle.mctp.specs.Led.{none_wrote}
 use Rattle.mctp.specs.Application.{no_data, read_data, body_of}
 use Rattle.mctp.specs.Message.{read_message, record_of}

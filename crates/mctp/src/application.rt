@@ -2,25 +2,35 @@
 // type, and then the body.
 ghost use Rattle.std.specs.Prelude.{◌≡◌, ◌≤◌};
 ghost use Rattle.mctp.specs.Kind.{largest, byte_of, integrity_of, kind_of};
-ghost use Rattle.mctp.specs.Application.{no_data, wrap_data, read_data, body_of};
+ghost use Rattle.mctp.specs.Led.{as_wrote};
+ghost use Rattle.mctp.specs.Application.{as_data, wrap_data, read_data, body_of};
 
 use crate::kind::Kind;
 use crate::led;
-use crate::led::Wrote;
 use answers::Refusal;
 
+// What the byte before the body holds.
+#[derive(Clone, Copy, PartialEq, Eq, Debug)]
+pub struct Header {
+    pub integrity: bool,
+    pub kind: u8,
+}
+
 // The byte of E-IC and a type.
+#[tactic(auto, unfolding(crate::specs::Kind::byte_of))]
 fn byte_of(integrity: bool, kind: u8) -> u8
     requires { kind ≤ largest }
     ensures { result ≡ byte_of integrity kind }
 {
     if integrity {
-        return kind | Kind::INTEGRITY;
+        kind | Kind::INTEGRITY
+    } else {
+        kind
     }
-    kind
 }
 
 // E-IC, the top bit of the byte.
+#[tactic(auto, unfolding(crate::specs::Kind::integrity_of))]
 fn integrity_of(byte: u8) -> bool
     ensures { result ≡ integrity_of byte }
 {
@@ -28,67 +38,50 @@ fn integrity_of(byte: u8) -> bool
 }
 
 // The type, the low seven bits of the byte.
+#[tactic(auto, unfolding(crate::specs::Kind::kind_of))]
 fn kind_of(byte: u8) -> u8
     ensures { result ≡ kind_of byte }
 {
     byte & Kind::LARGEST
 }
 
-// What is read of application data before its body.
-#[repr(C)]
-#[derive(Clone, Copy)]
-pub struct Data {
-    pub answer: u8,
-    pub integrity: bool,
-    pub kind: u8,
-}
-
-impl Data {
-    fn refused(why: u8) -> Data
-        ensures { result ≡ no_data why }
-    {
-        Data {
-            answer: why,
-            integrity: false,
-            kind: 0,
-        }
-    }
-}
-
-// The application data of a body at the start of `out`. The checks 20 and 17.
-pub fn wrap_data(integrity: bool, kind: u8, body: &[u8], out: &mut [u8]) -> Wrote
-    ensures { (result, out.new) ≡ wrap_data integrity kind body.now out.old }
+// The application data of a body at the start of `out`, and its length. The checks 20 and 17.
+#[tactic(auto, unfolding(crate::specs::Led::writes, crate::specs::Application::wrap_rows))]
+pub fn wrap_data(integrity: bool, kind: u8, body: &[u8], out: &mut [u8]) -> Result<u64, Refusal>
+    ensures { (as_wrote result, out.new) ≡ wrap_data integrity kind body.now out.old }
 {
-    let wrapped = (kind == Kind::BARRED) | (Kind::LARGEST < kind);
-    if wrapped {
-        return Wrote::refused(Refusal::WRAPPED);
+    if kind == Kind::BARRED || Kind::LARGEST < kind {
+        return Err(Refusal::Wrapped);
     }
     led::put_led(byte_of(integrity, kind), body, out)
 }
 
 // E-IC and the type of application data. The check 20.
-pub fn read_data(app: &[u8]) -> Data
-    ensures { result ≡ read_data app.now }
+#[tactic(auto, unfolding(crate::specs::Application::read_data, crate::specs::Application::unwrap_rows))]
+pub fn read_data(app: &[u8]) -> Result<Header, Refusal>
+    ensures { as_data result ≡ read_data app.now }
 {
-    if app.len() == 0 {
-        return Data::refused(Refusal::WRAPPED);
-    }
-    let byte = app[0];
+    let Some(&byte) = app.first() else {
+        return Err(Refusal::Wrapped);
+    };
     let kind = kind_of(byte);
-    let barred = kind == Kind::BARRED;
-    if barred {
-        return Data::refused(Refusal::WRAPPED);
+    if kind == Kind::BARRED {
+        return Err(Refusal::Wrapped);
     }
-    Data {
-        answer: 0,
+    Ok(Header {
         integrity: integrity_of(byte),
-        kind: kind,
-    }
+        kind,
+    })
 }
 
-// The body of application data, or nothing where `read_data` refuses it.
-pub fn body_of<'a>(app: &'a [u8]) -> &'a [u8]
+// The body of application data, or an empty part of it where `read_data` refuses it: what C is handed
+// lies in the buffer that it lent.
+#[tactic(auto, unfolding(crate::specs::Application::read_data, crate::specs::Application::unwrap_rows, crate::specs::Led::behind))]
+pub fn body_of(app: &[u8]) -> &[u8]
     ensures { result.now ≡ body_of app.now }
 {
-    led::behind(read_data(app).answer, app)
+    match read_data(app) {
+        Ok(_) => &app[1..],
+        Err(_) => &app[..0],
+    }
 }

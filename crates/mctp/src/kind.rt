@@ -1,6 +1,7 @@
 // Message types.
 
-// The type of an MCTP message, in the low bits of a byte whose top bit is the integrity check's.
+// The type of an MCTP message, in the low bits of a byte whose top bit is the integrity check's. The
+// types are numbers and no enum: whatever byte comes is answered for.
 #[derive(Clone, Copy)]
 pub struct Kind {
     pub number: u8,

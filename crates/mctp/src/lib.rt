@@ -3,11 +3,12 @@
 #![tactic(auto)]
 
 mod application;
+mod ffi;
 mod kind;
 mod led;
 mod message;
 
-pub use application::{Data, body_of, read_data, wrap_data};
+pub use application::{Header, body_of, read_data, wrap_data};
+pub use ffi::{Data, Wrote};
 pub use kind::Kind;
-pub use led::Wrote;
 pub use message::{read_message, record_of, wrap_record};

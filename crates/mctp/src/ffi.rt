@@ -1,0 +1,53 @@
+// What C is told of a result: the refusal's number or 0, and then what was handed out or zeros. The
+// structs are those of include/hazelhusk.h.
+ghost use Rattle.std.specs.Prelude.{◌≡◌};
+ghost use Rattle.mctp.specs.Led.{as_wrote};
+ghost use Rattle.mctp.specs.Application.{as_data};
+
+use crate::application::Header;
+use answers::Refusal;
+
+// What C is told of a writer: how many bytes it wrote.
+#[repr(C)]
+#[derive(Clone, Copy)]
+pub struct Wrote {
+    pub answer: u8,
+    pub length: u64,
+}
+
+impl From<Result<u64, Refusal>> for Wrote {
+    ghost from_gives = { λ r w. w ≡ as_wrote r };
+
+    fn from(written: Result<u64, Refusal>) -> Wrote {
+        let (answer, length) = match written {
+            Ok(length) => (0, length),
+            Err(why) => (why.number(), 0),
+        };
+        Wrote { answer, length }
+    }
+}
+
+// What C is told of application data: what the byte before its body holds.
+#[repr(C)]
+#[derive(Clone, Copy)]
+pub struct Data {
+    pub answer: u8,
+    pub integrity: bool,
+    pub kind: u8,
+}
+
+impl From<Result<Header, Refusal>> for Data {
+    ghost from_gives = { λ r d. d ≡ as_data r };
+
+    fn from(read: Result<Header, Refusal>) -> Data {
+        let (answer, integrity, kind) = match read {
+            Ok(Header { integrity, kind }) => (0, integrity, kind),
+            Err(why) => (why.number(), false, 0),
+        };
+        Data {
+            answer,
+            integrity,
+            kind,
+        }
+    }
+}
