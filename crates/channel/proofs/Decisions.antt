@@ -17,10 +17,10 @@ use Rattle.record.specs.Write.{form_rows}
 use Rattle.record.specs.Reasons.{open_reasons, record_reasons, form_reasons}
 use Rattle.record.proofs.Told.{bad_setting_lem, open_told, record_told, form_told, room_told, inner_told}
 use Rattle.channel.specs.declared.receiver.Receiver.{Receiver}
-use Rattle.channel.specs.declared.receiver.ReceiverStep.{ReceiverStep}
+use Rattle.channel.specs.declared.ffi.ReceiverStep.{ReceiverStep}
 use Rattle.channel.specs.declared.sender.Sender.{Sender}
-use Rattle.channel.specs.declared.sender.SenderStep.{SenderStep}
-use Rattle.channel.specs.declared.sender.Built.{Built}
+use Rattle.channel.specs.declared.ffi.SenderStep.{SenderStep}
+use Rattle.channel.specs.declared.ffi.Built.{Built}
 use Rattle.channel.specs.View.{no_key}
 use Rattle.channel.specs.Call.{Call, offer, settle, gaps, change_key, drop_old}
 use Rattle.channel.specs.Rules.{state_rows, slot_rows, place_rows_at, offer_rows, cipher_rows, marking_rows, rows}

@@ -1,22 +1,29 @@
 -- The zeros of a key, a sender and a receiver: what an opened state never is, and what every call refuses as State.
 -- Assumes nothing.
 use Prim.Native.Nat.{ℕ}
-use mathlib.Core.Bool.{true}
+use mathlib.Core.Bool.{Bool, true, false, not, ◌&&◌, and_assoc}
 use mathlib.Core.List.{List}
-use mathlib.Core.Path.{◌≡◌, refl, ap}
+use mathlib.Core.Path.{◌≡◌, refl, sym, ap, ap₂, ◌∙◌}
 use native.Mathlib.Omega.{arith}
 use lib.ListN.{length}
+use lib.Dec.{eqb}
+use Rattle.std.specs.Prelude.{nat_eq}
+use Rattle.std.specs.Cmp.Lexicographic.{pointwise, same_text, other_text}
+use Rattle.std.proofs.Math.Bool.{beq}
 use Rattle.answers.specs.Refusal as Refusal
 use Rattle.answers.specs.Refusal.{marks}
 use Rattle.answers.specs.Table.{first}
 use Rattle.answers.specs.Reasons.{Tells}
 use Rattle.answers.proofs.Tests.{tells_false, tells_eq, tells_and}
+use Rattle.octets.specs.Fields.{blank}
 use Rattle.octets.proofs.Blank.{blank_list}
 use Rattle.numbers.proofs.Laws.{Typed}
+use Rattle.numbers.proofs.Calls.{empty_test}
 use Rattle.numbers.proofs.Told.{empty_told}
 use Rattle.record.specs.declared.setting.Setting.{Setting}
-use Rattle.record.specs.Setting.{open_rows}
-use Rattle.record.proofs.Zeros.{zeros_bad, granted_not_zeros, zero_setting_lem}
+use Rattle.record.specs.Nonce.{zeros12}
+use Rattle.record.specs.Setting.{zero_setting, is_zero_setting, open_rows}
+use Rattle.record.proofs.Zeros.{zeros_bad, granted_not_zeros, zero_setting_lem, setting_test}
 use Rattle.channel.specs.declared.key.Key.{Key}
 use Rattle.channel.specs.declared.receiver.Receiver.{Receiver}
 use Rattle.channel.specs.declared.sender.Sender.{Sender}
@@ -81,6 +88,53 @@ zero_sender_lem s t =
         ap (λ (x : Sender). x.iv) p,
       );
     }
+
+-- ---- `==` at the zeros is the test of zeros
+
+blank_test : (iv : List ℕ) → length iv ≡ 12 → pointwise nat_eq iv zeros12 ≡ blank 12 iv
+unfolding blank
+blank_test iv h = go (pointwise nat_eq iv zeros12) (blank 12 iv) refl refl
+  where
+    go : (a b : Bool) → pointwise nat_eq iv zeros12 ≡ a → blank 12 iv ≡ b → a ≡ b
+    go true b p q = sym (ap (blank 12) (same_text iv zeros12 (sym p))) ∙ q
+    go false true p q = absurd (other_text iv zeros12 (sym p) ((blank_list 12 iv h).holds q))
+    go false false p q = refl
+
+-- field by field, as `==` goes
+abbrev same_settings : Setting → Setting → Bool
+same_settings s z =
+    eqb s.mode z.mode
+    && (eqb s.layout z.layout
+    && (eqb s.mac z.mac
+    && (eqb s.profile z.profile && (eqb s.width z.width && (eqb s.session z.session && eqb s.limit z.limit)))))
+
+abbrev same_key : Key → Key → Bool
+same_key k z = pointwise nat_eq k.iv z.iv && (eqb k.window.next z.window.next && pointwise nat_eq k.window.marks.words z.window.marks.words)
+
+abbrev pub same_receiver : Receiver → Receiver → Bool
+same_receiver r z =
+    same_settings r.setting z.setting
+    && (eqb r.count z.count && (same_key r.current z.current && (beq r.held z.held && same_key r.old z.old)))
+
+abbrev pub same_sender : Sender → Sender → Bool
+same_sender s z = same_settings s.setting z.setting && (eqb s.count z.count && (eqb s.next z.next && pointwise nat_eq s.iv z.iv))
+
+pub key_test : (k : Key) {z : Key} → TypedKey k → z ≡ zero_key → same_key k z ≡ is_zero_key k
+unfolding is_zero_key
+key_test k t e = rw e (ap₂ (λ (x y : Bool). x && y) (blank_test k.iv t.iv) (empty_test k.window t.marks refl))
+
+not_held : (b : Bool) → beq b false ≡ not b
+not_held true = refl
+not_held false = refl
+
+pub receiver_test : (r : Receiver) {z : Receiver} → TypedKey r.current → TypedKey r.old → z ≡ zero_receiver → same_receiver r z ≡ is_zero_receiver r
+unfolding is_zero_receiver is_zero_setting
+receiver_test r t u e =
+    rw (e, setting_test r.setting zero_setting, key_test r.current t refl, not_held r.held, key_test r.old u refl) (simp and_assoc)
+
+pub sender_test : (s : Sender) {z : Sender} → length s.iv ≡ 12 → z ≡ zero_sender → same_sender s z ≡ is_zero_sender s
+unfolding is_zero_sender is_zero_setting
+sender_test s t e = rw (e, setting_test s.setting zero_setting, blank_test s.iv t) (simp and_assoc)
 
 -- ---- an opened state is never zero
 

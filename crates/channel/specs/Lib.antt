@@ -4,5 +4,6 @@ pub mod Call
 pub mod Rules
 pub mod Receiver
 pub mod Look
+pub mod Told
 pub mod Sender
 pub mod Reasons

@@ -8,10 +8,10 @@ use Rattle.record.specs.Setting.{zero_setting, is_zero_setting, bad_setting, ope
 use Rattle.record.specs.Nonce.{zeros12}
 use Rattle.channel.specs.declared.key.Key.{Key}
 use Rattle.channel.specs.declared.receiver.Receiver.{Receiver}
-use Rattle.channel.specs.declared.receiver.ReceiverStep.{ReceiverStep}
-use Rattle.channel.specs.declared.receiver.Counted.{Counted}
-use Rattle.channel.specs.declared.delivery.Offered.{Offered}
-use Rattle.channel.specs.declared.delivery.Settled.{Settled}
+use Rattle.channel.specs.declared.ffi.ReceiverStep.{ReceiverStep}
+use Rattle.channel.specs.declared.ffi.Counted.{Counted}
+use Rattle.channel.specs.declared.ffi.Offered.{Offered}
+use Rattle.channel.specs.declared.ffi.Settled.{Settled}
 use Rattle.channel.specs.Key.{new_key, zero_key, is_zero_key, remark}
 use Rattle.channel.specs.View.{Face, View}
 use Rattle.channel.specs.Call.{Call, offer, settle, gaps, change_key, drop_old, Answer, Effect, stay, marking, turning, dropping}

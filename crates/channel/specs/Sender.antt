@@ -10,8 +10,8 @@ use Rattle.record.specs.Setting.{zero_setting, is_zero_setting, bad_setting, ope
 use Rattle.record.specs.Nonce.{nonce_of, zeros12}
 use Rattle.record.specs.Write.{assoc_end_for, text_end_for, total_for, form_rows, room_rows, front_of}
 use Rattle.channel.specs.declared.sender.Sender.{Sender}
-use Rattle.channel.specs.declared.sender.SenderStep.{SenderStep}
-use Rattle.channel.specs.declared.sender.Built.{Built}
+use Rattle.channel.specs.declared.ffi.SenderStep.{SenderStep}
+use Rattle.channel.specs.declared.ffi.Built.{Built}
 use Rattle.channel.specs.Key.{last_count}
 
 -- ---- its states

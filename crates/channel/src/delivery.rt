@@ -1,18 +1,18 @@
 // The receiver's calls that take a record: Offer and Settle.
 ghost use Rattle.std.specs.Prelude.{◌≡◌};
-ghost use Rattle.channel.specs.Call.{only, marking};
-ghost use Rattle.channel.specs.Receiver.{change, offered, settled, offer_of, settle_of};
-ghost use Rattle.channel.specs.Look.{no_look, look_of};
+ghost use Rattle.channel.specs.Call.{marking};
+ghost use Rattle.channel.specs.Receiver.{change, offer_of, settled, answer_to, state_after};
+ghost use Rattle.channel.specs.Look.{as_looked, look_of, passed_by};
+ghost use Rattle.channel.specs.Told.{no_offer, no_data, as_offered, as_settled, settle_call};
 
 use crate::receiver::Receiver;
 use answers::Refusal;
-use record::Record;
+use record::{Incoming, Record};
 
-// assoc and text are the ends of the associated data and of the text.
-#[repr(C)]
+// Which key count, number, nonce and bytes the cipher is to check: assoc and text are the ends of the
+// associated data and of the text.
 #[derive(Clone, Copy)]
-pub struct Offered {
-    pub answer: u8,
+pub struct Offer {
     pub count: u32,
     pub number: u64,
     pub nonce: [u8; 12],
@@ -20,33 +20,38 @@ pub struct Offered {
     pub text: u64,
 }
 
-// place and length are those of the application data.
-#[repr(C)]
+// What the cipher said of an offered record: the record and the key slot, the key count and the number
+// that it was checked with, whether it passed, and the text made plain.
 #[derive(Clone, Copy)]
-pub struct Settled {
-    pub answer: u8,
+pub struct Verdict<'a> {
+    pub rec: &'a [u8],
+    pub slot: u8,
+    pub count: u32,
+    pub number: u64,
+    pub passed: bool,
+    pub plain: &'a [u8],
+}
+
+// Where the application data is, and how long.
+#[derive(Clone, Copy)]
+pub struct Span {
     pub place: u64,
     pub length: u64,
-    pub next: Receiver,
 }
 
 // What the checks that Offer and Settle share find.
 #[derive(Clone, Copy)]
-struct Looked {
-    answer: u8,
+struct Look {
+    iv: [u8; 12],
     number: u64,
-    assoc: u64,
-    text: u64,
-    plain: u64,
-    place: u64,
+    read: Record,
 }
 
-impl Offered {
-    fn refused(why: u8) -> Offered
-        ensures { result ≡ offered (only why) }
+impl Offer {
+    pub(crate) fn none() -> Offer
+        ensures { result ≡ no_offer }
     {
-        Offered {
-            answer: why,
+        Offer {
             count: 0,
             number: 0,
             nonce: [0; 12],
@@ -56,148 +61,103 @@ impl Offered {
     }
 }
 
-impl Settled {
-    fn refused(why: u8, state: Receiver) -> Settled
-        ensures { result ≡ settled (only why) state }
+impl Span {
+    pub fn none() -> Span
+        ensures { result ≡ no_data }
     {
-        Settled {
-            answer: why,
+        Span {
             place: 0,
             length: 0,
-            next: state,
-        }
-    }
-}
-
-impl Looked {
-    fn refused(why: u8) -> Looked
-        ensures { result ≡ no_look why }
-    {
-        Looked {
-            answer: why,
-            number: 0,
-            assoc: 0,
-            text: 0,
-            plain: 0,
-            place: 0,
         }
     }
 }
 
 impl Receiver {
     // The checks that Offer and Settle share: 1, 3 to 10.
-    fn look(self, rec: &[u8], slot: u8) -> Looked
-        ensures { result ≡ look_of self rec.now slot }
+    fn look(self, rec: &[u8], slot: u8) -> Result<Look, Refusal>
+        ensures { as_looked result ≡ look_of self rec.now slot }
     {
-        let bad = self.is_bad();
-        if bad {
-            return Looked::refused(Refusal::STATE);
+        if self.is_bad() {
+            return Err(Refusal::State);
         }
-        let none = self.no_key(slot);
-        if none {
-            return Looked::refused(Refusal::KEY);
-        }
+        let key = self.key_at(slot)?;
         let setting = self.setting;
-        let f = Record::read(setting, rec);
-        if f.answer != 0 {
-            return Looked::refused(f.answer);
-        }
-        let key = self.key_at(slot);
-        let window = key.window;
-        let p = record::place(setting, window, rec);
-        if p.answer != 0 {
-            return Looked::refused(p.answer);
-        }
-        Looked {
-            answer: 0,
-            number: p.number,
-            assoc: f.assoc,
-            text: f.text,
-            plain: f.plain,
-            place: f.place,
-        }
+        let incoming = Incoming { setting, rec };
+        let read = incoming.read()?;
+        let number = incoming.place(key.window)?;
+        let iv = key.iv;
+        Ok(Look { iv, number, read })
     }
 
     // Which key, number, nonce and bytes the cipher is to check. The checks 1, 3 to 10; it answers no
     // state, so nothing is marked before the cipher said yes.
-    pub fn offer(self, rec: &[u8], slot: u8) -> Offered
-        ensures { result ≡ offer_of self rec.now slot }
+    pub fn offer(self, rec: &[u8], slot: u8) -> Result<Offer, Refusal>
+        ensures { as_offered result ≡ offer_of self rec.now slot }
     {
-        let l = self.look(rec, slot);
-        if l.answer != 0 {
-            return Offered::refused(l.answer);
-        }
-        let key = self.key_at(slot);
-        let iv = key.iv;
-        let setting = self.setting;
-        Offered {
-            answer: 0,
+        let seen = self.look(rec, slot)?;
+        let iv = seen.iv;
+        Ok(Offer {
             count: self.count_at(slot),
-            number: l.number,
-            nonce: record::nonce(setting, iv, l.number),
-            assoc: l.assoc,
-            text: l.text,
-        }
+            number: seen.number,
+            nonce: record::nonce(self.setting, iv, seen.number),
+            assoc: seen.read.assoc,
+            text: seen.read.text,
+        })
     }
 
     // With the number n marked under the slot's key.
+    #[tactic(auto, unfolding(crate::specs::Receiver::change))]
     fn marked(mut self, slot: u8, n: u64) -> Receiver
         ensures { result ≡ change self (marking slot n) }
     {
-        let setting = self.setting;
-        let first = slot == 0;
-        if first {
-            let key = self.current;
-            let k = key.marked(setting, n);
-            self.current = k;
-            self
+        let rule = self.setting.rule();
+        if slot == 0 {
+            self.current.window = self.current.window.mark(rule, n);
         } else {
-            let key = self.old;
-            let k = key.marked(setting, n);
-            self.old = k;
-            self
+            self.old.window = self.old.window.mark(rule, n);
         }
+        self
     }
 
-    // What the cipher said of an offered record. The checks 1, 3 to 14, made on this state and not on
-    // the one that was offered to, since the window may have moved between.
-    pub fn settle(
-        self,
-        rec: &[u8],
-        slot: u8,
-        count: u32,
-        number: u64,
-        passed: bool,
-        plain: &[u8],
-    ) -> Settled
-        ensures { result ≡ settle_of self rec.now slot count number passed plain.now }
+    // The checks of Settle that mark nothing: 1, 3 to 13, made on this state and not on the one that
+    // was offered to, since the window may have moved between.
+    fn check(self, verdict: Verdict) -> Result<Look, Refusal>
+        ensures { as_looked result ≡ passed_by self verdict.entry }
     {
-        let l = self.look(rec, slot);
-        if l.answer != 0 {
-            return Settled::refused(l.answer, self);
+        let seen = self.look(verdict.rec, verdict.slot)?;
+        if (verdict.count != self.count_at(verdict.slot)) | (verdict.number != seen.number) {
+            return Err(Refusal::Stale);
         }
-        let stale = (count != self.count_at(slot)) | (number != l.number);
-        if stale {
-            return Settled::refused(Refusal::STALE, self);
+        if verdict.plain.len() as u64 != seen.read.plain {
+            return Err(Refusal::Plain);
         }
-        let unfit = plain.len() as u64 != l.plain;
-        if unfit {
-            return Settled::refused(Refusal::PLAIN, self);
+        if !verdict.passed {
+            return Err(Refusal::Mac);
         }
-        if !passed {
-            return Settled::refused(Refusal::MAC, self);
+        Ok(seen)
+    }
+
+    // What the cipher's verdict on an offered record comes to, and the state after it. The checks 1, 3 to
+    // 14: only from Inner on is the record authentic, and its number marked.
+    pub fn settle(self, verdict: Verdict) -> (Result<Span, Refusal>, Receiver)
+        ensures { as_settled result ≡ settled (answer_to self (settle_call verdict.entry)) (state_after self (settle_call verdict.entry)) }
+    {
+        let seen = match self.check(verdict) {
+            Ok(seen) => seen,
+            Err(why) => return (Err(why), self),
+        };
+        let next = self.marked(verdict.slot, verdict.number);
+        let incoming = Incoming {
+            setting: self.setting,
+            rec: verdict.rec,
+        };
+        if incoming.inner_bad(verdict.plain) {
+            return (Err(Refusal::Inner), next);
         }
-        let setting = self.setting;
-        let next = self.marked(slot, number);
-        let inner = record::inner_bad(setting, rec, plain);
-        if inner {
-            return Settled::refused(Refusal::INNER, next);
-        }
-        Settled {
-            answer: 0,
-            place: l.place,
-            length: record::data_len(setting, rec, plain),
-            next: next,
-        }
+        let data = Span {
+            place: seen.read.place,
+            length: incoming.data_len(verdict.plain),
+        };
+        (Ok(data), next)
     }
 }

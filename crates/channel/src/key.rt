@@ -1,14 +1,13 @@
 // A receive key.
 ghost use Rattle.std.specs.Prelude.{◌≡◌};
 ghost use Rattle.numbers.specs.Contract.{sound_window};
-ghost use Rattle.channel.specs.Key.{new_key, zero_key, is_zero_key, remark};
+ghost use Rattle.channel.specs.Key.{new_key, zero_key, is_zero_key};
 
 use numbers::{Rule, Window};
-use record::Setting;
 
 // Its IV and its window.
 #[repr(C)]
-#[derive(Clone, Copy)]
+#[derive(Clone, Copy, PartialEq, Eq)]
 pub struct Key {
     pub iv: [u8; 12],
     pub window: Window,
@@ -16,13 +15,13 @@ pub struct Key {
 
 impl Key {
     // The highest key count.
-    pub const LAST: u32 = 4294967295;
+    pub const LAST: u32 = u32::MAX;
 
     pub(crate) fn fresh(iv: [u8; 12]) -> Key
         ensures { result ≡ new_key iv }
     {
         Key {
-            iv: iv,
+            iv,
             window: Window::empty(),
         }
     }
@@ -36,25 +35,12 @@ impl Key {
     pub(crate) fn is_zero(self) -> bool
         ensures { result ≡ is_zero_key self }
     {
-        let iv = self.iv;
-        let window = self.window;
-        octets::blank12(iv) & window.is_empty()
+        self == Key::zeros()
     }
 
     pub(crate) fn sound(self, rule: Rule) -> bool
         ensures { result ≡ sound_window rule self.window }
     {
-        let window = self.window;
-        window.sound(rule)
-    }
-
-    // With the number n marked.
-    pub(crate) fn marked(self, setting: Setting, n: u64) -> Key
-        ensures { result ≡ remark setting self n }
-    {
-        let iv = self.iv;
-        let window = self.window;
-        let w = window.mark(setting.rule(), n);
-        Key { iv: iv, window: w }
+        self.window.sound(rule)
     }
 }

@@ -2,11 +2,13 @@
 #![tactic(auto)]
 
 mod delivery;
+mod ffi;
 mod key;
 mod receiver;
 mod sender;
 
-pub use delivery::{Offered, Settled};
+pub use delivery::{Offer, Span, Verdict};
+pub use ffi::{Built, Counted, Offered, ReceiverStep, SenderStep, Settled};
 pub use key::Key;
-pub use receiver::{Counted, Receiver, ReceiverStep};
-pub use sender::{Built, Sender, SenderStep};
+pub use receiver::Receiver;
+pub use sender::{Draft, Sender};

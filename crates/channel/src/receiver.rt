@@ -1,16 +1,18 @@
 // The receiver: its state, its key slots, and the calls that take no record.
 ghost use Rattle.std.specs.Prelude.{◌≡◌};
-ghost use Rattle.channel.specs.View.{no_key, count_at};
-ghost use Rattle.channel.specs.Call.{only};
-ghost use Rattle.channel.specs.Receiver.{new_receiver, bad_receiver, look, key_of, counted, changed, open_receiver, gaps_of, change_receiver, drop_of};
+ghost use Rattle.channel.specs.View.{count_at};
+ghost use Rattle.channel.specs.Receiver.{zero_receiver, new_receiver, bad_receiver, look, open_receiver, gaps_of, change_receiver, drop_of};
+ghost use Rattle.channel.specs.Look.{key_there};
+ghost use Rattle.channel.specs.Told.{as_counted, receiver_step};
 
 use crate::key::Key;
 use answers::Refusal;
 use record::Setting;
 
-// count is the key count. The old key is there where held is true, else its fields are zeros.
+// count is the key count. The old key is there where held is true, else its fields are zeros: two
+// fields in place of an Option, since C holds the state.
 #[repr(C)]
-#[derive(Clone, Copy)]
+#[derive(Clone, Copy, PartialEq, Eq)]
 pub struct Receiver {
     pub setting: Setting,
     pub count: u32,
@@ -19,49 +21,12 @@ pub struct Receiver {
     pub old: Key,
 }
 
-#[repr(C)]
-#[derive(Clone, Copy)]
-pub struct Counted {
-    pub answer: u8,
-    pub gaps: u32,
-}
-
-// The answer to a call that gives the next state back and nothing else.
-#[repr(C)]
-#[derive(Clone, Copy)]
-pub struct ReceiverStep {
-    pub answer: u8,
-    pub next: Receiver,
-}
-
-impl Counted {
-    fn refused(why: u8) -> Counted
-        ensures { result ≡ counted (only why) }
-    {
-        Counted {
-            answer: why,
-            gaps: 0,
-        }
-    }
-}
-
-impl ReceiverStep {
-    fn with(answer: u8, state: Receiver) -> ReceiverStep
-        ensures { result ≡ changed (only answer) state }
-    {
-        ReceiverStep {
-            answer: answer,
-            next: state,
-        }
-    }
-}
-
 impl Receiver {
     fn fresh(setting: Setting, iv: [u8; 12]) -> Receiver
         ensures { result ≡ new_receiver setting iv }
     {
         Receiver {
-            setting: setting,
+            setting,
             count: 0,
             current: Key::fresh(iv),
             held: false,
@@ -69,126 +34,113 @@ impl Receiver {
         }
     }
 
-    // A new channel, or zeros, which every later call refuses. The check 2.
-    pub fn open(setting: Setting, iv: [u8; 12]) -> ReceiverStep
-        ensures { result ≡ open_receiver setting iv }
+    // No receiver of a channel: every call refuses it.
+    pub fn zeros() -> Receiver
+        ensures { result ≡ zero_receiver }
     {
-        let bad = setting.is_bad();
-        if bad {
-            return ReceiverStep {
-                answer: Refusal::SETTING,
-                next: Receiver::fresh(Setting::zeros(), [0; 12]),
-            };
+        Receiver::fresh(Setting::zeros(), [0; 12])
+    }
+
+    // A new channel. The check 2.
+    #[tactic(auto, unfolding(record::specs::Setting::open_rows))]
+    pub fn open(setting: Setting, iv: [u8; 12]) -> Result<Receiver, Refusal>
+        ensures { receiver_step zero_receiver result ≡ open_receiver setting iv }
+    {
+        if setting.is_bad() {
+            return Err(Refusal::Setting);
         }
-        ReceiverStep {
-            answer: 0,
-            next: Receiver::fresh(setting, iv),
-        }
+        Ok(Receiver::fresh(setting, iv))
     }
 
     // Whether State is given for it.
     pub(crate) fn is_bad(self) -> bool
         ensures { result ≡ bad_receiver self }
     {
-        let setting = self.setting;
-        let current = self.current;
-        let old = self.old;
-        let rule = setting.rule();
-        if setting.is_bad() | !current.sound(rule) {
+        let rule = self.setting.rule();
+        if self.setting.is_bad() | !self.current.sound(rule) {
             return true;
         }
         if self.held {
-            return !old.sound(rule) | (self.count == 0);
+            return !self.old.sound(rule) | (self.count == 0);
         }
         // Zeros have a sound window, so that it need not be asked.
-        !old.is_zero()
+        !self.old.is_zero()
     }
 
-    pub(crate) fn no_key(self, slot: u8) -> bool
-        ensures { result ≡ no_key (look self) slot }
+    // The key of a slot, where there is one: the check 3.
+    #[tactic(auto, unfolding(crate::specs::Look::key_there, crate::specs::Receiver::look, crate::specs::View::no_key))]
+    pub(crate) fn key_at(self, slot: u8) -> Result<Key, Refusal>
+        ensures { result ≡ key_there self slot }
     {
-        (1 < slot) | ((slot == 1) & !self.held)
+        match slot {
+            0 => Ok(self.current),
+            1 if self.held => Ok(self.old),
+            _ => Err(Refusal::Key),
+        }
     }
 
-    pub(crate) fn key_at(self, slot: u8) -> Key
-        ensures { result ≡ key_of self slot }
-    {
-        let first = slot == 0;
-        if first { self.current } else { self.old }
-    }
-
+    #[tactic(auto, unfolding(crate::specs::Receiver::look))]
     pub(crate) fn count_at(self, slot: u8) -> u32
         ensures { result ≡ count_at (look self) slot }
     {
-        let first = slot == 0;
-        if first {
-            return self.count;
+        if slot == 0 {
+            self.count
+        } else {
+            self.count.saturating_sub(1)
         }
-        if self.count == 0 { 0 } else { self.count - 1 }
     }
 
     // How many of the last numbers are missing under the slot's key. The checks 1, 3.
-    pub fn gaps(self, slot: u8) -> Counted
-        ensures { result ≡ gaps_of self slot }
+    pub fn gaps(self, slot: u8) -> Result<u32, Refusal>
+        ensures { as_counted result ≡ gaps_of self slot }
     {
-        let bad = self.is_bad();
-        if bad {
-            return Counted::refused(Refusal::STATE);
+        if self.is_bad() {
+            return Err(Refusal::State);
         }
-        let none = self.no_key(slot);
-        if none {
-            return Counted::refused(Refusal::KEY);
-        }
-        let setting = self.setting;
-        let key = self.key_at(slot);
-        let window = key.window;
-        Counted {
-            answer: 0,
-            gaps: window.gaps(setting.rule()),
-        }
+        let key = self.key_at(slot)?;
+        Ok(key.window.gaps(self.setting.rule()))
     }
 
     // A new IV: the current key becomes the old one, with its window. The checks 1, 18, 19.
-    pub fn change_key(self, iv: [u8; 12]) -> ReceiverStep
-        ensures { result ≡ change_receiver self iv }
+    #[tactic(auto, unfolding(crate::specs::Receiver::answer_to, crate::specs::Receiver::state_after, crate::specs::Receiver::look, crate::specs::Receiver::change, crate::specs::Rules::outcome, crate::specs::Rules::rows, crate::specs::Rules::state_rows, crate::specs::Rules::granted, crate::specs::Rules::refused, crate::specs::Rules::effect_of, answers::specs::Refusal::marks))]
+    pub fn change_key(self, iv: [u8; 12]) -> Result<Receiver, Refusal>
+        ensures { receiver_step self result ≡ change_receiver self iv }
     {
-        let bad = self.is_bad();
-        if bad {
-            return ReceiverStep::with(Refusal::STATE, self);
+        if self.is_bad() {
+            return Err(Refusal::State);
         }
         if self.held {
-            return ReceiverStep::with(Refusal::HELD, self);
+            return Err(Refusal::Held);
         }
-        let last = self.count == Key::LAST;
-        if last {
-            return ReceiverStep::with(Refusal::EPOCHS, self);
+        if self.count == Key::LAST {
+            return Err(Refusal::Epochs);
         }
-        let key = self.current;
-        let mut next = self;
-        next.count = self.count + 1;
-        next.held = true;
-        next.old = key;
-        let fresh = Key::fresh(iv);
-        next.current = fresh;
-        ReceiverStep::with(0, next)
+        Ok(Receiver {
+            setting: self.setting,
+            count: self.count + 1,
+            current: Key::fresh(iv),
+            held: true,
+            old: self.current,
+        })
     }
 
     // The old key is forgotten. The checks 1, 3.
-    pub fn drop(self) -> ReceiverStep
-        ensures { result ≡ drop_of self }
+    #[tactic(auto, unfolding(crate::specs::Receiver::answer_to, crate::specs::Receiver::state_after, crate::specs::Receiver::look, crate::specs::Receiver::change, crate::specs::Rules::outcome, crate::specs::Rules::rows, crate::specs::Rules::state_rows, crate::specs::Rules::granted, crate::specs::Rules::refused, crate::specs::Rules::effect_of, answers::specs::Refusal::marks))]
+    pub fn drop(self) -> Result<Receiver, Refusal>
+        ensures { receiver_step self result ≡ drop_of self }
     {
-        let bad = self.is_bad();
-        if bad {
-            return ReceiverStep::with(Refusal::STATE, self);
+        if self.is_bad() {
+            return Err(Refusal::State);
         }
-        let none = !self.held;
-        if none {
-            return ReceiverStep::with(Refusal::KEY, self);
+        if !self.held {
+            return Err(Refusal::Key);
         }
-        let mut next = self;
-        next.held = false;
-        let zero = Key::zeros();
-        next.old = zero;
-        ReceiverStep::with(0, next)
+        Ok(Receiver {
+            setting: self.setting,
+            count: self.count,
+            current: self.current,
+            held: false,
+            old: Key::zeros(),
+        })
     }
 }

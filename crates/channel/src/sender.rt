@@ -1,6 +1,7 @@
 // The sender.
 ghost use Rattle.std.specs.Prelude.{◌≡◌, length};
-ghost use Rattle.channel.specs.Sender.{new_sender, bad_sender, open_sender, no_build, build_of, build_out, change_sender};
+ghost use Rattle.channel.specs.Sender.{zero_sender, new_sender, bad_sender, open_sender, build_of, build_out, change_sender};
+ghost use Rattle.channel.specs.Told.{no_draft, sender_step, as_built};
 
 use crate::key::Key;
 use answers::Refusal;
@@ -8,7 +9,7 @@ use record::{Form, Setting};
 
 // count is the key count, next the number of the next record.
 #[repr(C)]
-#[derive(Clone, Copy)]
+#[derive(Clone, Copy, PartialEq, Eq)]
 pub struct Sender {
     pub setting: Setting,
     pub count: u32,
@@ -16,39 +17,26 @@ pub struct Sender {
     pub iv: [u8; 12],
 }
 
-// The answer to a call that gives the next state back and nothing else.
-#[repr(C)]
+// A record that is built but for its MAC: its number, its nonce and its form.
 #[derive(Clone, Copy)]
-pub struct SenderStep {
-    pub answer: u8,
-    pub next: Sender,
-}
-
-// assoc, text and total are the ends of the associated data, of the text and of the record.
-#[repr(C)]
-#[derive(Clone, Copy)]
-pub struct Built {
-    pub answer: u8,
+pub struct Draft {
     pub number: u64,
     pub nonce: [u8; 12],
-    pub assoc: u64,
-    pub text: u64,
-    pub total: u64,
-    pub next: Sender,
+    pub form: Form,
 }
 
-impl Built {
-    fn refused(why: u8, state: Sender) -> Built
-        ensures { result ≡ no_build state why }
+impl Draft {
+    pub fn none() -> Draft
+        ensures { result ≡ no_draft }
     {
-        Built {
-            answer: why,
+        Draft {
             number: 0,
             nonce: [0; 12],
-            assoc: 0,
-            text: 0,
-            total: 0,
-            next: state,
+            form: Form {
+                assoc: 0,
+                text: 0,
+                total: 0,
+            },
         }
     }
 }
@@ -58,101 +46,85 @@ impl Sender {
         ensures { result ≡ new_sender setting iv }
     {
         Sender {
-            setting: setting,
+            setting,
             count: 0,
             next: 0,
-            iv: iv,
+            iv,
         }
     }
 
-    // A new channel, or zeros, which every later call refuses. The check 2.
-    pub fn open(setting: Setting, iv: [u8; 12]) -> SenderStep
-        ensures { result ≡ open_sender setting iv }
+    // No sender of a channel: every call refuses it.
+    pub fn zeros() -> Sender
+        ensures { result ≡ zero_sender }
     {
-        let bad = setting.is_bad();
-        if bad {
-            return SenderStep {
-                answer: Refusal::SETTING,
-                next: Sender::fresh(Setting::zeros(), [0; 12]),
-            };
+        Sender::fresh(Setting::zeros(), [0; 12])
+    }
+
+    // A new channel. The check 2. Written out here and for the receiver: a trait over the two ends, with
+    // what each makes of a setting, would be longer than both.
+    #[tactic(auto, unfolding(record::specs::Setting::open_rows))]
+    pub fn open(setting: Setting, iv: [u8; 12]) -> Result<Sender, Refusal>
+        ensures { sender_step zero_sender result ≡ open_sender setting iv }
+    {
+        if setting.is_bad() {
+            return Err(Refusal::Setting);
         }
-        SenderStep {
-            answer: 0,
-            next: Sender::fresh(setting, iv),
-        }
+        Ok(Sender::fresh(setting, iv))
     }
 
     // Whether State is given for it.
+    #[tactic(auto, unfolding(crate::specs::Sender::bad_sender))]
     fn is_bad(self) -> bool
         ensures { result ≡ bad_sender self }
     {
-        let setting = self.setting;
-        setting.is_bad() | (setting.limit < self.next)
+        self.setting.is_bad() | (self.setting.limit < self.next)
     }
 
-    // All of a record but its MAC, at the start of `out`. The checks 1, 8, 15 to 17. The number is spent
-    // with it, whatever the host's cipher then does.
-    pub fn build(self, app: &[u8], random: &[u8], out: &mut [u8]) -> Built
-        ensures { (result ≡ build_of self (length app.now) (length random.now) (length out.old)) × (out.new ≡ build_out self app.now random.now out.old) }
+    // All of a record but its MAC, at the start of `out`, and the sender after it. The checks 1, 8, 15 to
+    // 17. The number is spent with it, whatever the host's cipher then does.
+    pub fn build(
+        self,
+        app: &[u8],
+        random: &[u8],
+        out: &mut [u8],
+    ) -> Result<(Draft, Sender), Refusal>
+        ensures { (as_built self result ≡ build_of self (length app.now) (length random.now) (length out.old)) × (out.new ≡ build_out self app.now random.now out.old) }
     {
-        let setting = self.setting;
         let number = self.next;
-        let bad = self.is_bad();
-        if bad {
-            return Built::refused(Refusal::STATE, self);
+        if self.is_bad() {
+            return Err(Refusal::State);
         }
-        let spent = number == setting.limit;
-        if spent {
-            return Built::refused(Refusal::SPENT, self);
+        if number == self.setting.limit {
+            return Err(Refusal::Spent);
         }
-        let form = Form::plan(setting, app.len() as u64, random.len() as u64);
-        if form.answer != 0 {
-            return Built::refused(form.answer, self);
-        }
-        let short = (out.len() as u64) < form.total;
-        if short {
-            return Built::refused(Refusal::ROOM, self);
-        }
-        record::write(setting, number, app, random, out);
+        let form = record::write(self.setting, number, app, random, out)?;
         let iv = self.iv;
         let mut next = self;
         next.next = number + 1;
-        Built {
-            answer: 0,
-            number: number,
-            nonce: record::nonce(setting, iv, number),
-            assoc: form.assoc,
-            text: form.text,
-            total: form.total,
-            next: next,
-        }
+        let draft = Draft {
+            number,
+            nonce: record::nonce(self.setting, iv, number),
+            form,
+        };
+        Ok((draft, next))
     }
 
     // A new IV, and the numbers from 0 again. The checks 1, 19.
-    pub fn change_key(self, iv: [u8; 12]) -> SenderStep
-        ensures { result ≡ change_sender self iv }
+    #[tactic(auto, unfolding(crate::specs::Sender::sender_rows, crate::specs::Sender::change_rows, crate::specs::Sender::change_sender))]
+    pub fn change_key(self, iv: [u8; 12]) -> Result<Sender, Refusal>
+        ensures { sender_step self result ≡ change_sender self iv }
     {
-        let bad = self.is_bad();
-        if bad {
-            return SenderStep {
-                answer: Refusal::STATE,
-                next: self,
-            };
+        if self.is_bad() {
+            return Err(Refusal::State);
         }
-        let last = self.count == Key::LAST;
-        if last {
-            return SenderStep {
-                answer: Refusal::EPOCHS,
-                next: self,
-            };
+        if self.count == Key::LAST {
+            return Err(Refusal::Epochs);
         }
-        let mut next = self;
-        next.count = self.count + 1;
-        next.next = 0;
-        next.iv = iv;
-        SenderStep {
-            answer: 0,
-            next: next,
-        }
+        Ok(Sender {
+            setting: self.setting,
+            count: self.count + 1,
+            next: 0,
+            iv,
+        })
     }
 }

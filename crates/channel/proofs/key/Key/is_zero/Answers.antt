@@ -1,6 +1,7 @@
-use Rattle.channel.specs.Key.{is_zero_key}
+use borrow.Author.Rules.{rules}
+use mathlib.Core.Path.{◌∙◌}
+use Rattle.channel.proofs.Zeros.{key_test}
 use Rattle.channel.proofs.key.Key.is_zero.Goals as goal
 
 pub returns : goal.returns
-unfolding is_zero_key
-returns c = rw (c.blank12.ensures, c.is_empty.ensures)
+returns c = c.eq.ensures ∙ key_test _ (record { iv = search rules; marks = search rules }) c.zeros.ensures

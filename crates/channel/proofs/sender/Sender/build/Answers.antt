@@ -1,35 +1,39 @@
-use borrow.Author.Tests.{eq-eqb, ne_eqb, lt-ltb, le-ltb}
-use Rattle.channel.proofs.Build.{below_limit, build_no, row_bad, row_spent, row_form, row_room, build_ok, out_ok}
+use Rattle.std.proofs.Common.{rules, ◌≡◌, Ok, Err}
+use borrow.Author.Tests.{eq-eqb, ne_eqb}
+use Rattle.answers.proofs.Answer.{number_some}
+use Rattle.channel.proofs.Building.{below_limit, build_no, row_bad, row_spent, build_write, build_ok, bytes_are}
 use native.Mathlib.Omega.{arith}
-use mathlib.Core.Path.{sym, ◌∙◌}
+use mathlib.Core.Path.{refl, sym, ◌∙◌}
 use Rattle.channel.proofs.sender.Sender.build.Goals as goal
 
-pub returns-then-bad : goal.returns-then-bad
-returns-then-bad c =
-    let a = c.args in
-    let t = build_no a.self a.app.now a.random.now a.out.now 1 (row_bad a.self a.app.now a.random.now a.out.now (sym c.is_bad-bad.ensures ∙ c.if-bad.true)) (λ z. omega arith) in (c.refused.ensures ∙ t.0, t.1)
+pub returns-then-is_bad : goal.returns-then-is_bad
+returns-then-is_bad c = build_no _ _ _ _ 1 (row_bad _ _ _ _ (sym c.is_bad.ensures ∙ c.if-is_bad.true)) (λ z. omega arith)
 
-pub returns-then-spent : goal.returns-then-spent
-returns-then-spent c =
-    let a = c.args in
-    let t = build_no a.self a.app.now a.random.now a.out.now 8 (row_spent a.self a.app.now a.random.now a.out.now (sym c.is_bad-bad.ensures ∙ c.if-bad.false) (eq-eqb _ _ c.if-spent.true)) (λ z. omega arith) in (c.refused-then-spent.ensures ∙ t.0, t.1)
+pub returns-then-number-self : goal.returns-then-number-self
+returns-then-number-self c =
+    build_no _ _ _ _ 8 (row_spent _ _ _ _ (sym c.is_bad.ensures ∙ c.if-is_bad.false) (eq-eqb _ _ c.if-number-self.true)) (λ z. omega arith)
 
-pub returns-then-form-ne0 : goal.returns-then-form-ne0
-returns-then-form-ne0 c =
-    let a = c.args in
-    let t = build_no a.self a.app.now a.random.now a.out.now _ (row_form a.self a.app.now a.random.now a.out.now (sym c.is_bad-bad.ensures ∙ c.if-bad.false) (ne_eqb _ _ c.if-spent.false) _ c.plan-form.ensures c.if-form-ne0.true) c.if-form-ne0.true in (c.refused-then-form-ne0.ensures ∙ t.0, t.1)
-
-pub returns-then-short : goal.returns-then-short
-returns-then-short c =
-    let a = c.args in
-    let t = build_no a.self a.app.now a.random.now a.out.now 17 (row_room a.self a.app.now a.random.now a.out.now (sym c.is_bad-bad.ensures ∙ c.if-bad.false) (ne_eqb _ _ c.if-spent.false) _ c.plan-form.ensures c.if-form-ne0.false (lt-ltb _ _ c.if-short.true)) (λ z. omega arith) in (c.refused-then-short.ensures ∙ t.0, t.1)
+pub returns-in_err-form : goal.returns-in_err-form
+returns-in_err-form c =
+    let good = sym c.is_bad.ensures ∙ c.if-is_bad.false in
+    let left = ne_eqb _ _ c.if-number-self.false in
+    let why = c.in_err-form.field-0.0 in
+    let wrote : c.write.result ≡ Err why = search rules in
+    let up : c.from_residual.result ≡ Err why = search rules in (
+      rw up (build_write _ _ _ _ good left _ (rw wrote at c.write.ensures.form) (number_some why)),
+      c.write.ensures.bytes ∙ bytes_are _ _ _ _ good left,
+    )
 
 pub overflow_add-next : goal.overflow_add-next
 overflow_add-next c =
     let a = c.args in
-    omega (arith, below_limit a.self (sym c.is_bad-bad.ensures ∙ c.if-bad.false) (ne_eqb _ _ c.if-spent.false))
+    omega (arith, below_limit a.self (sym c.is_bad.ensures ∙ c.if-is_bad.false) (ne_eqb _ _ c.if-number-self.false))
 
 pub returns : goal.returns
 returns c =
-    let a = c.args in
-    (rw c.nonce.ensures (build_ok a.self a.app.now a.random.now a.out.now (sym c.is_bad-bad.ensures ∙ c.if-bad.false) (ne_eqb _ _ c.if-spent.false) _ c.plan-form.ensures c.if-form-ne0.false (le-ltb _ _ c.if-short.false)), c.write.ensures ∙ out_ok a.self a.app.now a.random.now a.out.now (sym c.is_bad-bad.ensures ∙ c.if-bad.false) (ne_eqb _ _ c.if-spent.false) _ c.plan-form.ensures c.if-form-ne0.false (le-ltb _ _ c.if-short.false))
+    let good = sym c.is_bad.ensures ∙ c.if-is_bad.false in
+    let left = ne_eqb _ _ c.if-number-self.false in
+    let wrote : c.write.result ≡ Ok c.in_ok-form.form = search rules in (
+      build_ok _ _ _ _ good left _ (rw wrote at c.write.ensures.form) refl c.nonce.ensures,
+      c.write.ensures.bytes ∙ bytes_are _ _ _ _ good left,
+    )
