@@ -1,7 +1,6 @@
 // A row of the controller's table: the words that it lies in, and the two ends that they are.
 #![tactic(auto)]
 
-mod ends;
 mod part;
 mod row;
 

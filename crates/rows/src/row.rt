@@ -2,7 +2,7 @@
 ghost use Rattle.std.specs.Prelude.{◌≡◌};
 ghost use Rattle.rows.specs.Ends.{receiver_of, sender_of, ends_of, is_free, with_receiver, with_sender, put_receiver, put_sender};
 
-use crate::{ends, part};
+use crate::part;
 use channel::{Receiver, Sender};
 
 // Nineteen words of the receiver, then seven of the sender.
@@ -21,6 +21,7 @@ impl Row {
 
     pub const PEER_ID: usize = 20;
 
+    #[tactic(auto, unfolding(crate::specs::Ends::receiver_of))]
     pub fn receiver(self) -> Receiver
         ensures { result ≡ receiver_of self.words }
     {
@@ -34,6 +35,7 @@ impl Row {
         }
     }
 
+    #[tactic(auto, unfolding(crate::specs::Ends::sender_of))]
     pub fn sender(self) -> Sender
         ensures { result ≡ sender_of self.words }
     {
@@ -50,63 +52,25 @@ impl Row {
     pub fn with_receiver(self, receiver: Receiver) -> Row
         ensures { (result.words ≡ put_receiver self.words receiver) × (ends_of result.words ≡ with_receiver (ends_of self.words) receiver) }
     {
-        let setting = receiver.setting;
-        let current = receiver.current;
-        let old = receiver.old;
-        let w = self.words;
-        let s = part::setting_words(setting);
-        let n = part::count_word(receiver.count);
-        let c = part::key_words(current);
-        let h = part::held_word(receiver.held);
-        let o = part::key_words(old);
-        Row {
-            words: [
-                s[0], s[1], s[2], n, c[0], c[1], c[2], c[3], c[4], c[5], c[6], h, o[0], o[1], o[2],
-                o[3], o[4], o[5], o[6], w[19], w[20], w[21], w[22], w[23], w[24], w[25],
-            ],
-        }
+        let mut words = self.words;
+        words[..3].copy_from_slice(&part::setting_words(receiver.setting));
+        words[3] = u64::from(receiver.count);
+        words[4..11].copy_from_slice(&part::key_words(receiver.current));
+        words[11] = u64::from(receiver.held);
+        words[12..19].copy_from_slice(&part::key_words(receiver.old));
+        Row { words }
     }
 
     // The row with another sender.
     pub fn with_sender(self, sender: Sender) -> Row
         ensures { (result.words ≡ put_sender self.words sender) × (ends_of result.words ≡ with_sender (ends_of self.words) sender) }
     {
-        let setting = sender.setting;
-        let iv = sender.iv;
-        let w = self.words;
-        let s = part::setting_words(setting);
-        let n = part::count_word(sender.count);
-        let v = part::iv_words(iv);
-        Row {
-            words: [
-                w[0],
-                w[1],
-                w[2],
-                w[3],
-                w[4],
-                w[5],
-                w[6],
-                w[7],
-                w[8],
-                w[9],
-                w[10],
-                w[11],
-                w[12],
-                w[13],
-                w[14],
-                w[15],
-                w[16],
-                w[17],
-                w[18],
-                s[0],
-                s[1],
-                s[2],
-                n,
-                sender.next,
-                v[0],
-                v[1],
-            ],
-        }
+        let mut words = self.words;
+        words[19..22].copy_from_slice(&part::setting_words(sender.setting));
+        words[22] = u64::from(sender.count);
+        words[23] = sender.next;
+        words[24..].copy_from_slice(&part::iv_words(sender.iv));
+        Row { words }
     }
 
     // Whether it is all zeros. A row in use has a limit, so one look mostly tells.
@@ -117,8 +81,6 @@ impl Row {
         if w[2] != 0 {
             return false;
         }
-        let receiver = self.receiver();
-        let sender = self.sender();
-        ends::blank_receiver(receiver) & ends::blank_sender(sender)
+        self.receiver() == Receiver::zeros() && self.sender() == Sender::zeros()
     }
 }
