@@ -8,7 +8,6 @@ use lib.Dec.{T, eqb}
 use lib.ListN.{set}
 use lib.Seq.{set-get_or}
 use borrow.Author.Tests.{eqb-true, eqb-false, ne_eqb}
-use Rattle.answers.specs.Refusal as Refusal
 use Rattle.answers.specs.Refusal.{authentic, marks}
 use Rattle.answers.specs.Table.{first}
 use Rattle.answers.proofs.Given.{given_ok, given_no}
@@ -20,10 +19,15 @@ use Rattle.channel.specs.Receiver.{look, answer_to, state_after}
 use Rattle.channel.specs.declared.receiver.Receiver.{Receiver}
 use Rattle.channel.proofs.Outcome.{code_of, answer_no, after_no}
 use Rattle.rows.specs.Ends.{Ends, free_ends, receiver_of, ends_of, with_receiver, put_receiver}
-use Rattle.controller.specs.declared.door.Reached.{Reached}
+use Rattle.controller.specs.Words.{Reached}
 use Rattle.controller.specs.Doors.{Door, place, door_rows}
 use Rattle.controller.specs.Calls.{receive, row_to, receive_in, table_after}
-use Rattle.controller.specs.Words.{reached_in, rows_of, words_at, receive_words}
+use Rattle.controller.specs.Words.{as_reached, reached_in, rows_of, words_at, receive_words}
+use Rattle.controller.specs.declared.door.Reach.{Reach}
+use Rattle.answers.specs.declared.refusal.Refusal.{Refusal}
+use Rattle.answers.specs.Answer.{number_of}
+use Rattle.answers.proofs.Answer.{number_some}
+use Rattle.std.specs.Prelude.{Ok, Err}
 use Rattle.controller.proofs.Reaching.{rows_set, door_unmarking, door_why, door_found, ends_found}
 
 -- what answers neither 0 nor a refusal that marks keeps the receiver
@@ -108,21 +112,44 @@ module _ (w : List (List ℕ)) (d : Door) (c : Call) where
                 ∙ sym (given_ok (set t (place t d) (with_receiver (row_to t d) (state_after (row_to t d).receiver c))) (λ why. t) (first (door_rows t d)) (door_why w d to e ∙ h)),
           )
 
+  -- ---- what a call of a row's receiver answers, and what it leaves of the words and the rows
+
+  abbrev pub Receives : Answer → List (List ℕ) → Type 0
+  Receives a w' = (a ≡ receive_in t d c) × (w' ≡ receive_words w d c) × (rows_of w' ≡ table_after t (receive d c))
+
+  -- the way is shut
+  pub way_shut : (why : Refusal) → as_reached (Err why) ≡ reached_in w d → Receives (only (number_of why)) w
+  way_shut why e =
+      let way = refused_way (as_reached (Err why)) e (number_some why) in
+      let same = untouched way.1 in
+      (way.0, same.0, same.1)
+
+  -- the row is asked
+  module _ (to : Reach) (e : as_reached (Ok to) ≡ reached_in w d) where
+    pub row_asked : answer_to (receiver_of to.row.words) c ≡ receive_in t d c
+    row_asked = row_answers (as_reached (Ok to)) e refl
+
+    -- and refuses, and marks nothing
+    pub row_keeps : (k : ℕ) → k ≡ (answer_to (receiver_of to.row.words) c).code → authentic k ≡ false → Receives (only k) w
+    row_keeps k told plain =
+        let row = row_refuses (as_reached (Ok to)) e refl k told plain in
+        let same = untouched row.1 in
+        (row.0, same.0, same.1)
+
+    -- and changes
+    pub row_changes : (a : Answer) → a ≡ answer_to (receiver_of to.row.words) c → authentic a.code ≡ true
+        → (next : Receiver) → next ≡ state_after (receiver_of to.row.words) c
+        → (x : List ℕ) → (x ≡ put_receiver to.row.words next) × (ends_of x ≡ with_receiver (ends_of to.row.words) next)
+        → Receives a (set w to.at x)
+    row_changes a told moves next after x put =
+        let new = changed (as_reached (Ok to)) e refl a.code (ap (λ (y : Answer). y.code) told) moves next after x put.0 put.1 in
+        (told ∙ row_asked, new.0, new.1)
+
 -- ---- which answers of a row change it
 
--- those of a Settle: 0 and Inner
-pub settles_not : (k : ℕ) → (not (eqb k 0) && not (eqb k Refusal.inner)) ≡ not (authentic k)
-unfolding authentic marks
-settles_not k = neither (eqb k 0) (eqb k Refusal.inner)
-  where
-    neither : (a b : Bool) → (not a && not b) ≡ not (a || b)
-    neither true b = refl
-    neither false b = refl
-
--- those of the other calls: 0
-pub zero_moves : (k : ℕ) → k ≡ 0 → authentic k ≡ true
+pub zero_moves : authentic 0 ≡ true
 unfolding authentic
-zero_moves k e = rw e refl
+zero_moves = refl
 
 pub turn_refuses : (r : Receiver) (iv : List ℕ) (k : ℕ) → k ≡ (answer_to r (change_key iv)).code → (k ≡ 0 → ⊥) → authentic k ≡ false
 unfolding authentic marks rows state_rows

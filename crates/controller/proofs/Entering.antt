@@ -12,13 +12,13 @@ use Rattle.answers.proofs.Given.{given_ok, why_is}
 use Rattle.answers.proofs.Table.{first_past, first_stop}
 use Rattle.channel.specs.Receiver.{new_receiver, zero_receiver, open_receiver}
 use Rattle.channel.specs.Sender.{new_sender, zero_sender, open_sender}
-use Rattle.channel.specs.declared.receiver.ReceiverStep.{ReceiverStep}
-use Rattle.channel.specs.declared.sender.SenderStep.{SenderStep}
+use Rattle.channel.specs.declared.ffi.ReceiverStep.{ReceiverStep}
+use Rattle.channel.specs.declared.ffi.SenderStep.{SenderStep}
 use Rattle.record.specs.Setting.{open_rows}
 use Rattle.record.specs.declared.setting.Setting.{Setting}
 use Rattle.rows.specs.Ends.{Ends, is_free, ends_of, put_receiver, put_sender}
 use Rattle.rows.proofs.Laws.{zeros_free}
-use Rattle.controller.specs.declared.door.Reached.{Reached}
+use Rattle.controller.specs.Words.{Reached}
 use Rattle.controller.specs.Table.{some, lowest, has, clashes}
 use Rattle.controller.specs.Doors.{number, place, door_rows, new_rows}
 use Rattle.controller.specs.Calls.{enter, leave, open_in, close_in, table_after}
@@ -79,11 +79,11 @@ module _ (w : List (List ℕ)) (s : Setting) (iv iw : List ℕ) where
       open_twice twice = open_refused Refusal.twice (behind z ∙ rw twice refl) (eqb-false Refusal.twice 0 refl)
 
       module _ (once : some (has s.session) t ≡ false) where
-        pub open_full : not (some is_free t) ≡ true → Opens Refusal.rows 0 w
+        pub open_full : some is_free t ≡ false → Opens Refusal.rows 0 w
         open_full full = open_refused Refusal.rows (behind z ∙ rw (once, full) refl) (eqb-false Refusal.rows 0 refl)
 
         -- the new ends stand in the lowest free row
-        pub open_new : not (some is_free t) ≡ false → (at : ℕ) → at ≡ lowest is_free t → (x : List ℕ)
+        pub open_new : some is_free t ≡ true → (at : ℕ) → at ≡ lowest is_free t → (x : List ℕ)
             → x ≡ put_sender (put_receiver no_words (new_receiver s iv)) (new_sender s iw)
             → ends_of x ≡ record { receiver = new_receiver s iv; sender = new_sender s iw }
             → Opens 0 at (set w at x)

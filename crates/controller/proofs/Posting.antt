@@ -11,12 +11,12 @@ use Rattle.answers.proofs.Given.{given_ok, given_no, why_is}
 use Rattle.channel.specs.Sender.{no_build, built, build_rows, build_of, build_out, turn_to, change_rows, change_sender}
 use Rattle.octets.specs.Parts.{over}
 use Rattle.record.specs.Write.{front_of}
-use Rattle.channel.specs.declared.sender.Built.{Built}
+use Rattle.channel.specs.declared.ffi.Built.{Built}
 use Rattle.channel.specs.declared.sender.Sender.{Sender}
-use Rattle.channel.specs.declared.sender.SenderStep.{SenderStep}
+use Rattle.channel.specs.declared.ffi.SenderStep.{SenderStep}
 use Rattle.rows.specs.Ends.{Ends, free_ends, sender_of, ends_of, with_sender, put_sender}
-use Rattle.controller.specs.declared.door.Reached.{Reached}
-use Rattle.controller.specs.declared.sending.Sent.{Sent}
+use Rattle.controller.specs.Words.{Reached}
+use Rattle.controller.specs.declared.ffi.Sent.{Sent}
 use Rattle.controller.specs.Answers.{sent, no_sent}
 use Rattle.controller.specs.Table.{row_at}
 use Rattle.controller.specs.Doors.{number, place, door_rows}

@@ -4,7 +4,7 @@ use Prim.Native.Nat.{ℕ, zero, suc}
 use mathlib.Core.Bool.{true, false}
 use mathlib.Core.List.{List, [], ◌∷◌}
 use mathlib.Core.Path.{◌≡◌, refl, sym, ap, ◌∙◌}
-use lib.Dec.{T, ltb, eqb}
+use lib.Dec.{T, ltb}
 use lib.ListN.{length, set}
 use Rattle.answers.specs.Refusal as Refusal
 use Rattle.answers.specs.Refusal.{authentic, marks}
@@ -12,13 +12,13 @@ use Rattle.answers.specs.Table.{first}
 use Rattle.answers.proofs.Given.{why_is, ok_is}
 use Rattle.answers.proofs.Table.{unmarking}
 use Rattle.rows.specs.Ends.{Ends, is_free, ends_of}
-use Rattle.controller.specs.declared.door.Reached.{Reached}
+use Rattle.controller.specs.Words.{Reached}
 use Rattle.controller.specs.Table.{some, lowest, has, clashes}
 use Rattle.record.specs.Shape.{shortest}
 use Rattle.controller.specs.Doors.{Door, session, number, id_in, place, door_rows}
 use Rattle.controller.specs.Calls.{row_to}
 use Rattle.controller.specs.Words.{no_row, reached_in, rows_of, words_at}
-use Rattle.controller.proofs.Scanning.{row_at_lem, none_at}
+use Rattle.controller.proofs.Scanning.{row_at_lem}
 
 -- the row at i, as it is reached
 abbrev pub row_found : List (List ℕ) → ℕ → Reached
@@ -33,15 +33,15 @@ module _ (w : List (List ℕ)) (r : List ℕ) where
   unfolding reached_in door_rows
   session_short bad short = rw (bad, short) refl
 
-  pub session_unknown : clashes (rows_of w) ≡ false → ltb (length r) shortest ≡ false
-      → (at : ℕ) → at ≡ lowest (has (id_in r)) (rows_of w) → eqb at (length w) ≡ true → no_row Refusal.unknown ≡ reached_in w (session r)
+  pub session_unknown : clashes (rows_of w) ≡ false → ltb (length r) shortest ≡ false → some (has (id_in r)) (rows_of w) ≡ false
+      → no_row Refusal.unknown ≡ reached_in w (session r)
   unfolding reached_in door_rows
-  session_unknown bad short at e none = rw (bad, short, none_at (has (id_in r)) w (length w) at refl e, none) refl
+  session_unknown bad short none = rw (bad, short, none) refl
 
-  pub session_found : clashes (rows_of w) ≡ false → ltb (length r) shortest ≡ false
-      → (at : ℕ) → at ≡ lowest (has (id_in r)) (rows_of w) → eqb at (length w) ≡ false → row_found w at ≡ reached_in w (session r)
+  pub session_found : clashes (rows_of w) ≡ false → ltb (length r) shortest ≡ false → some (has (id_in r)) (rows_of w) ≡ true
+      → (at : ℕ) → at ≡ lowest (has (id_in r)) (rows_of w) → row_found w at ≡ reached_in w (session r)
   unfolding reached_in door_rows place
-  session_found bad short at e some = rw (bad, short, none_at (has (id_in r)) w (length w) at refl e, some, e) refl
+  session_found bad short found at e = rw (bad, short, found, e) refl
 
 module _ (w : List (List ℕ)) (i : ℕ) where
   pub number_clash : clashes (rows_of w) ≡ true → no_row Refusal.state ≡ reached_in w (number i)

@@ -3,16 +3,13 @@
 use Prim.Native.Nat.{ℕ, ◌+◌, ◌≤◌, ◌<◌}
 use mathlib.Core.Bool.{Bool, true, false, not, cond, ◌&&◌, ◌||◌}
 use mathlib.Core.List.{List, [], ◌∷◌}
-use mathlib.Core.Path.{◌≡◌, refl, sym, ap, ◌∙◌}
+use mathlib.Core.Path.{◌≡◌, refl, sym}
 use native.Mathlib.Omega.{arith}
 use lib.Dec.{ltb}
-use lib.ListN.{length, drop}
 use borrow.Author.Tests.{ltb-false, ne_eqb}
 use Rattle.answers.proofs.Tests.{or_neither, true_not_false}
-use Rattle.rows.specs.Ends.{Ends, is_free, is_open, is_split, id_of, ends_of}
+use Rattle.rows.specs.Ends.{Ends, is_free, is_open, is_split, id_of}
 use Rattle.controller.specs.Table.{some, has, clashes, rises}
-use Rattle.controller.specs.Words.{rows_of, words_at}
-use Rattle.controller.proofs.Scanning.{drop_row, drop_end}
 
 -- no row has a Session ID below n, and no rows clash
 abbrev pub Apart : ℕ → List Ends → Type 0
@@ -50,26 +47,3 @@ rises_apart n [] r = nothing_apart
 rises_apart n (e ∷ t) r =
     let on = rises_on n e t (is_split e || (is_open e && ltb (id_of e) n)) refl r in
     apart_next n e t (is_free e) refl on.0 on.1 (rises_apart (cond (is_free e) n (id_of e + 1)) t on.2)
-
--- ---- from row i on
-
-rises_next : (n : ℕ) (w : List (List ℕ)) (i : ℕ) → i < length w
-    → let e = ends_of (words_at w i) in
-    rises n (drop i (rows_of w)) ≡ cond (is_split e || (is_open e && ltb (id_of e) n)) false (rises (cond (is_free e) n (id_of e + 1)) (drop (i + 1) (rows_of w)))
-unfolding rises
-rises_next n w i h = ap (rises n) (drop_row w i h)
-
-pub rises_stop : (n : ℕ) (w : List (List ℕ)) (i : ℕ) → i < length w
-    → let e = ends_of (words_at w i) in
-    (is_split e || (is_open e && ltb (id_of e) n)) ≡ true → rises n (drop i (rows_of w)) ≡ false
-rises_stop n w i h b = rises_next n w i h ∙ rw b refl
-
-pub rises_step : (n : ℕ) (w : List (List ℕ)) (i : ℕ) → i < length w
-    → let e = ends_of (words_at w i) in
-    (is_split e || (is_open e && ltb (id_of e) n)) ≡ false
-    → rises n (drop i (rows_of w)) ≡ rises (cond (is_free e) n (id_of e + 1)) (drop (i + 1) (rows_of w))
-rises_step n w i h b = rises_next n w i h ∙ rw b refl
-
-pub rises_end : (n : ℕ) (w : List (List ℕ)) (i : ℕ) → length w ≤ i → rises n (drop i (rows_of w)) ≡ true
-unfolding rises
-rises_end n w i h = ap (rises n) (drop_end w i h)

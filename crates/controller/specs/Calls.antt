@@ -5,7 +5,7 @@ use Rattle.answers.specs.Table.{first, given}
 use Rattle.channel.specs.Call.{Call, Answer, only}
 use Rattle.channel.specs.Receiver.{new_receiver, answer_to, state_after}
 use Rattle.channel.specs.Sender.{new_sender, no_build, build_of, build_out, change_sender}
-use Rattle.channel.specs.declared.sender.Built.{Built}
+use Rattle.channel.specs.declared.ffi.Built.{Built}
 use Rattle.channel.specs.declared.sender.Sender.{Sender}
 use Rattle.record.specs.declared.setting.Setting.{Setting}
 use Rattle.rows.specs.Ends.{Ends, free_ends, is_free, with_receiver, with_sender}

@@ -1,14 +1,17 @@
 -- The words that the table lies in: what a call that changes a row writes there. A refusal writes nothing.
 -- Assumes nothing.
-use Rattle.std.specs.Prelude.{ℕ, cond, List, map, eqb, get_or, set, replicate}
+use Rattle.std.specs.Prelude.{ℕ, cond, List, map, eqb, get_or, set, replicate, Result}
 use Rattle.answers.specs.Refusal.{authentic}
 use Rattle.answers.specs.Table.{first, given}
+use Rattle.answers.specs.Answer.{code_of, or_none}
+use Rattle.answers.specs.declared.refusal.Refusal.{Refusal}
 use Rattle.channel.specs.Call.{Call}
 use Rattle.channel.specs.Receiver.{new_receiver, state_after}
 use Rattle.channel.specs.Sender.{new_sender, change_sender}
 use Rattle.record.specs.declared.setting.Setting.{Setting}
 use Rattle.rows.specs.Ends.{row_words, Ends, is_free, ends_of, put_receiver, put_sender}
-use Rattle.controller.specs.declared.door.Reached.{Reached}
+use Rattle.rows.specs.declared.row.Row.{Row}
+use Rattle.controller.specs.declared.door.Reach.{Reach}
 use Rattle.controller.specs.Table.{row_at, lowest}
 use Rattle.controller.specs.Doors.{Door, number, place, door_rows, new_rows}
 use Rattle.controller.specs.Calls.{row_to, receive_in, build_in, turn_in}
@@ -23,7 +26,21 @@ rows_of w = map ends_of w
 abbrev pub words_at : List (List ℕ) → ℕ → List ℕ
 words_at w i = get_or w i no_words
 
--- the row that a door leads to, or why it leads to none
+-- the row that a door leads to, as numbers: 0, its place and its words, or why it leads to none and zeros
+pub record Reached : Type 0 where
+  pub answer : ℕ
+  pub at : ℕ
+  pub row : Row
+
+abbrev nothing : Reach
+nothing = record { at = 0; row = record { words = no_words } }
+
+-- what a result is, as numbers
+abbrev pub as_reached : Result Reach Refusal → Reached
+as_reached r =
+    let f : Reach = or_none nothing r in
+    record { answer = code_of r; at = f.at; row = f.row }
+
 abbrev pub no_row : ℕ → Reached
 no_row why = record { answer = why; at = 0; row = record { words = no_words } }
 

@@ -3,13 +3,15 @@
 #![tactic(auto)]
 
 mod door;
+mod ffi;
 mod opening;
 mod receiving;
 mod scan;
 mod sending;
 mod table;
 
-pub use opening::{Opened, close, open};
-pub use receiving::{Taken, change_receiver, drop, gaps, offer, settle};
-pub use sending::{Sent, build, change_sender};
+pub use ffi::{Opened, Sent, Taken};
+pub use opening::{close, open};
+pub use receiving::{change_receiver, drop, gaps, offer, settle};
+pub use sending::{build, change_sender};
 pub use table::Table;

@@ -1,120 +1,80 @@
 // What is asked of all rows.
-ghost use Rattle.std.specs.Prelude.{◌≡◌, drop, cond, ◌+◌};
+ghost use Rattle.std.specs.Prelude.{◌≡◌, position};
 ghost use Rattle.rows.specs.Ends.{ends_of, is_free};
-ghost use Rattle.controller.specs.Table.{some, lowest, has, clashes, rises};
-ghost use Rattle.controller.specs.Words.{rows_of, words_at};
+ghost use Rattle.controller.specs.Table.{some, has, clashes, rises};
+ghost use Rattle.controller.specs.Words.{rows_of};
 
 use crate::table;
 
-// Whether the row at `at` is open and has this Session ID.
-fn has_id(table: &[[u64; 26]], at: usize, id: u32) -> bool
-    ensures { result ≡ has id (ends_of (words_at table.now at)) }
+// Whether the row is open and has this Session ID.
+#[tactic(auto, unfolding(crate::specs::Table::has))]
+fn has_id(row: &[u64; 26], id: u32) -> bool
+    ensures { result ≡ has id (ends_of row.now) }
 {
-    let other = table::id_at(table, at) != id;
-    if other {
-        return false;
-    }
-    !table::free_at(table, at)
+    table::id_of(row) == id && !table::is_free(row)
 }
 
-// The lowest open row with this Session ID, or the number of rows.
-pub(crate) fn seat(table: &[[u64; 26]], id: u32) -> usize
-    ensures { result ≡ lowest (has id) (rows_of table.now) }
+// The lowest open row with this Session ID.
+pub(crate) fn find_open(table: &[[u64; 26]], id: u32) -> Option<usize>
+    ensures { result ≡ position (λ w. has id (ends_of w)) table.now }
 {
-    let mut i = 0;
-    while i < table.len() {
-        let here = has_id(table, i, id);
-        if here {
-            return i;
-        }
-        i = i + 1;
-    }
-    i
+    table.iter().position(|row| has_id(row, id))
 }
 
-// The lowest free row, or the number of rows.
-pub(crate) fn vacancy(table: &[[u64; 26]]) -> usize
-    ensures { result ≡ lowest is_free (rows_of table.now) }
+// The lowest free row.
+pub(crate) fn find_free(table: &[[u64; 26]]) -> Option<usize>
+    ensures { result ≡ position (λ w. is_free (ends_of w)) table.now }
 {
-    let mut i = 0;
-    while i < table.len() {
-        let at = i;
-        let free = table::free_at(table, at);
-        if free {
-            return at;
-        }
-        i = i + 1;
-    }
-    i
+    table.iter().position(|row| table::is_free(row))
 }
 
-// Whether a row from `from` on is open and has this Session ID.
-fn shared(table: &[[u64; 26]], from: usize, id: u32) -> bool
-    ensures { result ≡ some (has id) (drop from (rows_of table.now)) }
+// Whether one of these rows is open and has this Session ID.
+fn shared(rows: &[[u64; 26]], id: u32) -> bool
+    ensures { result ≡ some (has id) (rows_of rows.now) }
 {
-    let mut i = from;
-    while i < table.len() {
-        let here = has_id(table, i, id);
-        if here {
-            return true;
-        }
-        i = i + 1;
-    }
-    false
-}
-
-// The least Session ID that a later open row may have where they rise.
-fn above(least: u64, free: bool, id: u32) -> u64
-    ensures { result ≡ cond free least (id + 1) }
-{
-    if free { least } else { id as u64 + 1 }
+    rows.iter().any(|row| has_id(row, id))
 }
 
 // Whether no row is split and the Session IDs of the open rows rise from row to row.
+#[tactic(auto, unfolding(crate::specs::Table::rises))]
 fn rising(table: &[[u64; 26]]) -> bool
     ensures { result ≡ rises 0 (rows_of table.now) }
 {
     let mut least: u64 = 0;
-    let mut i = 0;
-    while i < table.len() {
-        let free = table::free_at(table, i);
-        let id = table::id_at(table, i);
-        let split = table::split_at(table, i);
-        let out = split | (!free & ((id as u64) < least));
-        if out {
+    for row in table {
+        if table::is_split(row) {
             return false;
         }
-        least = above(least, free, id);
-        i = i + 1;
+        if !table::is_free(row) {
+            let id = u64::from(table::id_of(row));
+            if id < least {
+                return false;
+            }
+            least = id + 1;
+        }
     }
     true
 }
 
 // Whether two open rows share a Session ID, or the two ends of a row differ in it.
+#[tactic(auto, unfolding(crate::specs::Table::clashes))]
 fn pairs_clash(table: &[[u64; 26]]) -> bool
     ensures { result ≡ clashes (rows_of table.now) }
 {
-    let mut i = 0;
-    while i < table.len() {
-        let after = i + 1;
-        let id = table::id_at(table, i);
-        let twin = !table::free_at(table, i) & shared(table, after, id);
-        let bad = table::split_at(table, i) | twin;
-        if bad {
+    let mut rest = table;
+    while let Some((row, after)) = rest.split_first() {
+        if table::is_split(row) || !table::is_free(row) && shared(after, table::id_of(row)) {
             return true;
         }
-        i = after;
+        rest = after;
     }
     false
 }
 
 // The same, seen in one scan where the Session IDs rise, as they mostly do; else by pairs.
+#[tactic(auto, using(crate::proofs::Rising::rises_apart))]
 pub(crate) fn clash(table: &[[u64; 26]]) -> bool
     ensures { result ≡ clashes (rows_of table.now) }
 {
-    let apart = rising(table);
-    if apart {
-        return false;
-    }
-    pairs_clash(table)
+    !rising(table) && pairs_clash(table)
 }

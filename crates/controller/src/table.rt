@@ -10,48 +10,41 @@ pub type Table = [[u64; 26]; 16];
 // A Session ID is below this: the bits above are padding.
 const HALF: u64 = 4294967296;
 
+// Of a row, without a copy of it: its Session ID,
+#[tactic(auto, unfolding(rows::specs::Ends::receiver_of))]
+pub(crate) fn id_of(row: &[u64; 26]) -> u32
+    ensures { result ≡ id_of (ends_of row.now) }
+{
+    (row[Row::ID] % HALF) as u32
+}
+
+// whether its two ends differ in it,
+#[tactic(auto, unfolding(rows::specs::Ends::receiver_of, rows::specs::Ends::sender_of, rows::specs::Ends::is_split))]
+pub(crate) fn is_split(row: &[u64; 26]) -> bool
+    ensures { result ≡ is_split (ends_of row.now) }
+{
+    row[Row::ID] % HALF != row[Row::PEER_ID] % HALF
+}
+
+// and whether it is free: a row in use has a limit, so one look mostly tells.
+#[tactic(auto, using(rows::proofs::Laws::limit_not_free), unfolding(rows::specs::Ends::receiver_of))]
+pub(crate) fn is_free(row: &[u64; 26]) -> bool
+    ensures { result ≡ is_free (ends_of row.now) }
+{
+    if row[Row::LIMIT] != 0 {
+        return false;
+    }
+    Row { words: *row }.is_free()
+}
+
 // The row at `at`; beyond the last one a free one.
 pub(crate) fn row_at(table: &[[u64; 26]], at: usize) -> Row
     ensures { result.words ≡ words_at table.now at }
 {
-    if at < table.len() {
-        let words = table[at];
-        return Row { words: words };
+    match table.get(at) {
+        Some(words) => Row { words: *words },
+        None => Row { words: [0; 26] },
     }
-    Row { words: [0; 26] }
-}
-
-// Of the row at `at`, without a copy of it: its Session ID,
-pub(crate) fn id_at(table: &[[u64; 26]], at: usize) -> u32
-    ensures { result ≡ id_of (ends_of (words_at table.now at)) }
-{
-    if at < table.len() {
-        return (table[at][Row::ID] % HALF) as u32;
-    }
-    0
-}
-
-// whether its two ends differ in it,
-pub(crate) fn split_at(table: &[[u64; 26]], at: usize) -> bool
-    ensures { result ≡ is_split (ends_of (words_at table.now at)) }
-{
-    if at < table.len() {
-        return table[at][Row::ID] % HALF != table[at][Row::PEER_ID] % HALF;
-    }
-    false
-}
-
-// and whether it is free: a row in use has a limit, so one look mostly tells.
-pub(crate) fn free_at(table: &[[u64; 26]], at: usize) -> bool
-    ensures { result ≡ is_free (ends_of (words_at table.now at)) }
-{
-    if at < table.len() {
-        if table[at][Row::LIMIT] != 0 {
-            return false;
-        }
-    }
-    let row = row_at(table, at);
-    row.is_free()
 }
 
 // The row at `at` becomes this one, where there is such a row.

@@ -1,15 +1,17 @@
-use mathlib.Core.Path.{ap, ◌∙◌}
-use Rattle.controller.specs.Words.{rows_of}
+use Rattle.std.proofs.Common.{rules, ◌≡◌, Ok, Err}
+use mathlib.Core.Path.{refl, ap, ◌∙◌}
+use Rattle.answers.proofs.Answer.{number_some}
 use Rattle.controller.proofs.Entering.{close_refused, close_frees}
 use Rattle.controller.proofs.opening.close.Goals as goal
 
-pub returns-then-to-ne0 : goal.returns-then-to-ne0
-returns-then-to-ne0 c =
-    let a = c.args in
-    close_refused a.table.now a.row c.by_number-to.result c.by_number-to.ensures c.if-to-ne0.true
+pub returns-in_err-to : goal.returns-in_err-to
+returns-in_err-to c =
+    let why = c.in_err-to.field-0.0 in
+    let way : c.by_number.result ≡ Err why = search rules in
+    let up : c.from_residual.result ≡ Err why = search rules in
+    rw up (close_refused _ _ _ (rw way at c.by_number.ensures) (number_some why))
 
 pub returns : goal.returns
 returns c =
-    let a = c.args in
-    let new = close_frees a.table.now a.row c.by_number-to.result c.by_number-to.ensures c.if-to-ne0.false in
-    (new.0, c.put_row.ensures ∙ new.1, ap rows_of c.put_row.ensures ∙ new.2)
+    let way : c.by_number.result ≡ Ok c.in_ok-to.to = search rules in
+    rw c.put_row.ensures (close_frees _ _ _ (rw way at c.by_number.ensures) refl)

@@ -1,56 +1,36 @@
-use Prim.Native.Nat.{ℕ}
-use mathlib.Core.List.{List}
-use mathlib.Core.Path.{◌≡◌, ap, sym, ◌∙◌}
-use Rattle.channel.specs.Call.{Call, Answer}
-use Rattle.channel.specs.Receiver.{changed, answer_to, state_after}
-use Rattle.channel.specs.declared.receiver.Receiver.{Receiver}
-use Rattle.channel.specs.declared.receiver.ReceiverStep.{ReceiverStep}
-use Rattle.rows.specs.Ends.{receiver_of}
-use Rattle.controller.specs.Doors.{Door, number}
-use Rattle.controller.specs.Words.{rows_of}
-use Rattle.controller.specs.declared.door.Reached.{Reached}
-use Rattle.controller.proofs.Asking.{untouched, refused_way, row_answers, row_refuses, zero_moves, drop_refuses}
-use Rattle.controller.proofs.Asking as asking
+use Rattle.std.proofs.Common.{rules, ◌≡◌, Ok, Err}
+use mathlib.Core.Path.{refl, sym, ap, ◌∙◌}
+use Rattle.answers.proofs.Answer.{number_some}
+use Rattle.channel.specs.Call.{Answer}
+use Rattle.channel.specs.declared.ffi.ReceiverStep.{ReceiverStep}
+use Rattle.controller.proofs.Asking.{way_shut, row_keeps, row_changes, zero_moves, drop_refuses}
 use Rattle.controller.proofs.receiving.drop.Goals as goal
 
-pub returns-then-to-ne0 : goal.returns-then-to-ne0
-returns-then-to-ne0 c =
-    let a = c.args in
-    let w : List (List ℕ) = a.table.now in
-    let d : Door = number a.row in
-    let x : Call = Call.drop_old in
-    let way = refused_way w d x c.by_number-to.result c.by_number-to.ensures c.if-to-ne0.true in
-    let same = untouched w d x way.1 in
-    (ap (λ (y : Answer). y.code) way.0, same.0, same.1)
+pub returns-in_err-to : goal.returns-in_err-to
+returns-in_err-to c =
+    let why = c.in_err-to.field-0.0 in
+    let way : c.by_number.result ≡ Err why = search rules in
+    let up : c.from_residual.result ≡ Err why = search rules in
+    let s = way_shut _ _ _ why (rw way at c.by_number.ensures) in
+    rw up (ap (λ (a : Answer). a.code) s.0, s.1, s.2)
 
-pub returns-then-s-ne0 : goal.returns-then-s-ne0
-returns-then-s-ne0 c =
-    let a = c.args in
-    let w : List (List ℕ) = a.table.now in
-    let d : Door = number a.row in
-    let x : Call = Call.drop_old in
-    let to : Reached = c.by_number-to.result in
-    let k : ℕ = c.drop-s.result.answer in
-    let told : k ≡ (answer_to (receiver_of to.row.words) x).code = ap (λ (s : ReceiverStep). s.answer) (rw c.receiver-receiver.ensures at c.drop-s.ensures) in
-    let row = row_refuses w d x to c.by_number-to.ensures c.if-to-ne0.false k told (drop_refuses (receiver_of to.row.words) k told c.if-s-ne0.true) in
-    let same = untouched w d x row.1 in
-    (ap (λ (y : Answer). y.code) row.0, same.0, same.1)
+pub returns-in_err-next : goal.returns-in_err-next
+returns-in_err-next c =
+    let why = c.in_err-next.field-0.0 in
+    let way : c.by_number.result ≡ Ok c.in_ok-to.to = search rules in
+    let step : c.drop.result ≡ Err why = search rules in
+    let up : c.from_residual-in_err-next.result ≡ Err why = search rules in
+    let told = ap (λ (y : ReceiverStep). y.answer) (rw (c.receiver.ensures, step) at c.drop.ensures) in
+    let s = row_keeps _ _ _ _ (rw way at c.by_number.ensures) _ told (drop_refuses _ _ told (number_some why)) in
+    rw up (ap (λ (a : Answer). a.code) s.0, s.1, s.2)
 
 pub returns : goal.returns
 returns c =
-    let a = c.args in
-    let w : List (List ℕ) = a.table.now in
-    let d : Door = number a.row in
-    let x : Call = Call.drop_old in
-    let to : Reached = c.by_number-to.result in
-    let r : Receiver = receiver_of to.row.words in
-    let s : ReceiverStep = c.drop-s.result in
-    let run : s ≡ changed (answer_to r x) (state_after r x) = rw c.receiver-receiver.ensures at c.drop-s.ensures in
-    let told : s.answer ≡ (answer_to r x).code = ap (λ (y : ReceiverStep). y.answer) run in
-    let new =
-    asking.changed w d x to c.by_number-to.ensures c.if-to-ne0.false s.answer told (zero_moves s.answer c.if-s-ne0.false)
-    s.next (ap (λ (y : ReceiverStep). y.next) run) c.with_receiver.result.words c.with_receiver.ensures.0 c.with_receiver.ensures.1 in (
-      sym c.if-s-ne0.false ∙ told ∙ ap (λ (y : Answer). y.code) (row_answers w d x to c.by_number-to.ensures c.if-to-ne0.false),
-      c.put_row.ensures ∙ new.0,
-      ap rows_of c.put_row.ensures ∙ new.1,
-    )
+    let way : c.by_number.result ≡ Ok c.in_ok-to.to = search rules in
+    let step : c.drop.result ≡ Ok c.in_ok-next.next = search rules in
+    let run = rw (c.receiver.ensures, step) at c.drop.ensures in
+    let told = ap (λ (y : ReceiverStep). y.answer) run in
+    let s =
+    row_changes _ _ _ _ (rw way at c.by_number.ensures) _ refl (rw (← told) zero_moves) c.in_ok-next.next (ap (λ (y : ReceiverStep). y.next) run)
+    c.with_receiver.result.words c.with_receiver.ensures in
+    rw c.put_row.ensures (told ∙ ap (λ (a : Answer). a.code) s.0, s.1, s.2)

@@ -1,17 +1,17 @@
+use Rattle.std.proofs.Common.{rules, ◌≡◌, Ok, Err}
 use mathlib.Core.Path.{ap, ◌∙◌}
 use Rattle.channel.specs.Receiver.{counted}
-use Rattle.channel.specs.Call as Call
-use Rattle.controller.specs.Doors.{number}
-use Rattle.controller.proofs.Asking.{refused_way, row_answers}
+use Rattle.controller.proofs.Asking.{way_shut, row_asked}
 use Rattle.controller.proofs.receiving.gaps.Goals as goal
 
-pub returns-then-to-ne0 : goal.returns-then-to-ne0
-returns-then-to-ne0 c =
-    let a = c.args in
-    ap counted (refused_way a.table.now (number a.row) (Call.gaps a.slot) c.by_number-to.result c.by_number-to.ensures c.if-to-ne0.true).0
+pub returns-in_err-to : goal.returns-in_err-to
+returns-in_err-to c =
+    let why = c.in_err-to.field-0.0 in
+    let way : c.by_number.result ≡ Err why = search rules in
+    let up : c.from_residual.result ≡ Err why = search rules in
+    rw up (ap counted (way_shut _ _ _ why (rw way at c.by_number.ensures)).0)
 
 pub returns : goal.returns
 returns c =
-    let a = c.args in
-    rw c.receiver-receiver.ensures at c.gaps.ensures
-    ∙ ap counted (row_answers a.table.now (number a.row) (Call.gaps a.slot) c.by_number-to.result c.by_number-to.ensures c.if-to-ne0.false)
+    let way : c.by_number.result ≡ Ok c.in_ok-to.to = search rules in
+    rw c.receiver.ensures at c.gaps.ensures ∙ ap counted (row_asked _ _ _ _ (rw way at c.by_number.ensures))

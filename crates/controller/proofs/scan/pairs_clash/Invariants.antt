@@ -1,13 +1,12 @@
--- no row before i is split, or open with an open one after it that has its Session ID
-use Prim.Native.Nat.{◌-◌}
+-- no row before the rest is split, or open with an open one after it that has its Session ID
 use mathlib.Core.Path.{◌≡◌}
-use lib.ListN.{length, drop}
+use lib.ListN.{length}
 use Rattle.controller.specs.Table.{clashes}
 use Rattle.controller.specs.Words.{rows_of}
 use Rattle.controller.proofs.scan.pairs_clash.Given as goal
 
-abbrev pub invariant-loop-i : goal.invariant-loop-i
-invariant-loop-i l = clashes (rows_of l.table) ≡ clashes (drop l.i (rows_of l.table))
+abbrev pub invariant-loop-row : goal.invariant-loop-row
+invariant-loop-row l = clashes (rows_of l.table) ≡ clashes (rows_of l.rest)
 
-abbrev pub decreases-loop-i : goal.decreases-loop-i
-decreases-loop-i l = length l.table - l.i
+abbrev pub decreases-loop-row : goal.decreases-loop-row
+decreases-loop-row l = length l.rest

@@ -1,32 +1,35 @@
-use mathlib.Core.Path.{ap, ◌∙◌}
-use Rattle.controller.specs.Words.{rows_of}
+use Rattle.std.proofs.Common.{rules, ◌≡◌, Ok, Err}
+use mathlib.Core.Path.{refl, ap, ◌∙◌}
+use Rattle.answers.proofs.Answer.{number_some}
 use Rattle.controller.proofs.Posting.{build_shut, build_refuses, build_changes}
 use Rattle.controller.proofs.sending.build.Goals as goal
 
-pub returns-then-to-ne0 : goal.returns-then-to-ne0
-returns-then-to-ne0 c =
+pub returns-in_err-to : goal.returns-in_err-to
+returns-in_err-to c =
     let a = c.args in
-    let none = build_shut a.table.now a.row c.by_number-to.result c.by_number-to.ensures a.app.now a.random.now a.out.now c.if-to-ne0.true in
-    (c.refused.ensures ∙ none.0, none.1, none.2, none.3)
+    let why = c.in_err-to.field-0.0 in
+    let way : c.by_number.result ≡ Err why = search rules in
+    let up : c.from_residual.result ≡ Err why = search rules in
+    rw up (build_shut _ _ _ (rw way at c.by_number.ensures) a.app.now a.random.now a.out.now (number_some why))
 
-pub returns-then-b-ne0 : goal.returns-then-b-ne0
-returns-then-b-ne0 c =
+pub returns-in_err-draft : goal.returns-in_err-draft
+returns-in_err-draft c =
     let a = c.args in
-    let made = rw c.sender-sender.ensures at c.build-b.ensures in
-    let none =
-    build_refuses a.table.now a.row c.by_number-to.result c.by_number-to.ensures a.app.now a.random.now a.out.now c.if-to-ne0.false
-    c.build-b.result made.0 c.if-b-ne0.true in
-    (c.refused-then-b-ne0.ensures ∙ none.0, made.1 ∙ none.1, none.2, none.3)
+    let why = c.in_err-draft.field-0.0 in
+    let way : c.by_number.result ≡ Ok c.in_ok-to.to = search rules in
+    let built : c.build.result ≡ Err why = search rules in
+    let up : c.from_residual-in_err-draft.result ≡ Err why = search rules in
+    let made = rw (c.sender.ensures, built) at c.build.ensures in
+    let none = build_refuses _ _ _ (rw way at c.by_number.ensures) a.app.now a.random.now a.out.now refl _ made.0 (number_some why) in
+    rw up (none.0, made.1 ∙ none.1, none.2, none.3)
 
 pub returns : goal.returns
 returns c =
     let a = c.args in
-    let made = rw c.sender-sender.ensures at c.build-b.ensures in
+    let way : c.by_number.result ≡ Ok c.in_ok-to.to = search rules in
+    let built : c.build.result ≡ Ok (c.in_ok-draft.draft, c.in_ok-draft.next) = search rules in
+    let made = rw (c.sender.ensures, built) at c.build.ensures in
     let new =
-    build_changes a.table.now a.row c.by_number-to.result c.by_number-to.ensures a.app.now a.random.now a.out.now c.if-to-ne0.false
-    c.build-b.result made.0 c.if-b-ne0.false c.with_sender.result.words c.with_sender.ensures.0 c.with_sender.ensures.1 in (
-      new.0,
-      made.1 ∙ new.1,
-      c.put_row.ensures ∙ new.2,
-      ap rows_of c.put_row.ensures ∙ new.3,
-    )
+    build_changes _ _ _ (rw way at c.by_number.ensures) a.app.now a.random.now a.out.now refl _ made.0 refl c.with_sender.result.words
+    c.with_sender.ensures.0 c.with_sender.ensures.1 in
+    rw c.put_row.ensures (new.0, made.1 ∙ new.1, new.2, new.3)

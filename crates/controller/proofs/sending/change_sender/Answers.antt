@@ -1,23 +1,29 @@
-use mathlib.Core.Path.{ap, ◌∙◌}
-use Rattle.controller.specs.Words.{rows_of}
+use Rattle.std.proofs.Common.{rules, ◌≡◌, Ok, Err}
+use mathlib.Core.Path.{refl, ap, ◌∙◌}
+use Rattle.answers.proofs.Answer.{number_some}
 use Rattle.controller.proofs.Posting.{turn_shut, turn_refuses, turn_changes}
 use Rattle.controller.proofs.sending.change_sender.Goals as goal
 
-pub returns-then-to-ne0 : goal.returns-then-to-ne0
-returns-then-to-ne0 c =
-    let a = c.args in
-    turn_shut a.table.now a.row c.by_number-to.result c.by_number-to.ensures a.iv c.if-to-ne0.true
+pub returns-in_err-to : goal.returns-in_err-to
+returns-in_err-to c =
+    let why = c.in_err-to.field-0.0 in
+    let way : c.by_number.result ≡ Err why = search rules in
+    let up : c.from_residual.result ≡ Err why = search rules in
+    rw up (turn_shut _ _ _ (rw way at c.by_number.ensures) c.args.iv (number_some why))
 
-pub returns-then-s-ne0 : goal.returns-then-s-ne0
-returns-then-s-ne0 c =
-    let a = c.args in
-    turn_refuses a.table.now a.row c.by_number-to.result c.by_number-to.ensures a.iv c.if-to-ne0.false
-    c.change_key-s.result (rw c.sender-sender.ensures at c.change_key-s.ensures) c.if-s-ne0.true
+pub returns-in_err-next : goal.returns-in_err-next
+returns-in_err-next c =
+    let why = c.in_err-next.field-0.0 in
+    let way : c.by_number.result ≡ Ok c.in_ok-to.to = search rules in
+    let step : c.change_key.result ≡ Err why = search rules in
+    let up : c.from_residual-in_err-next.result ≡ Err why = search rules in
+    let turned = rw (c.sender.ensures, step) at c.change_key.ensures in
+    rw up (turn_refuses _ _ _ (rw way at c.by_number.ensures) c.args.iv refl _ turned (number_some why))
 
 pub returns : goal.returns
 returns c =
-    let a = c.args in
-    let new =
-    turn_changes a.table.now a.row c.by_number-to.result c.by_number-to.ensures a.iv c.if-to-ne0.false
-    c.change_key-s.result (rw c.sender-sender.ensures at c.change_key-s.ensures) c.if-s-ne0.false c.with_sender.result.words c.with_sender.ensures.0 c.with_sender.ensures.1 in
-    (new.0, c.put_row.ensures ∙ new.1, ap rows_of c.put_row.ensures ∙ new.2)
+    let way : c.by_number.result ≡ Ok c.in_ok-to.to = search rules in
+    let step : c.change_key.result ≡ Ok c.in_ok-next.next = search rules in
+    let turned = rw (c.sender.ensures, step) at c.change_key.ensures in
+    rw c.put_row.ensures
+    (turn_changes _ _ _ (rw way at c.by_number.ensures) c.args.iv refl _ turned refl c.with_sender.result.words c.with_sender.ensures.0 c.with_sender.ensures.1)
