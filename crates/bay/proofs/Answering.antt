@@ -19,7 +19,7 @@ use Rattle.channel.specs.Call.{Call, Answer, only}
 use Rattle.channel.specs.Receiver.{look, answer_to}
 use Rattle.channel.specs.Rules.{rows}
 use Rattle.channel.specs.Sender.{no_build, build_rows, build_of, build_out, change_rows, change_sender}
-use Rattle.channel.specs.declared.sender.Built.{Built}
+use Rattle.channel.specs.declared.ffi.Built.{Built}
 use Rattle.channel.specs.declared.sender.Sender.{Sender}
 use Rattle.channel.proofs.Outcome.{code_of}
 use Rattle.promises.proofs.Demands as Base

@@ -15,10 +15,10 @@ use Rattle.channel.specs.Receiver.{look, state_after, new_receiver, zero_receive
 use Rattle.channel.specs.Rules.{outcome}
 use Rattle.channel.specs.Sender.{build_of, change_sender, new_sender, zero_sender, open_sender}
 use Rattle.channel.specs.declared.receiver.Receiver.{Receiver}
-use Rattle.channel.specs.declared.sender.Built.{Built}
+use Rattle.channel.specs.declared.ffi.Built.{Built}
 use Rattle.channel.specs.declared.sender.Sender.{Sender}
-use Rattle.channel.specs.declared.sender.SenderStep.{SenderStep}
-use Rattle.channel.specs.declared.receiver.ReceiverStep.{ReceiverStep}
+use Rattle.channel.specs.declared.ffi.SenderStep.{SenderStep}
+use Rattle.channel.specs.declared.ffi.ReceiverStep.{ReceiverStep}
 use Rattle.promises.proofs.Sealed.{kept_setting}
 use Rattle.promises.proofs.Sends.{Builds, builds, Turns, turns}
 use Rattle.promises.proofs.Sends as Sends

@@ -17,8 +17,8 @@ use Rattle.record.specs.Write.{form_rows, room_rows}
 use Rattle.record.specs.Setting.{open_rows}
 use Rattle.channel.specs.Call.{Call, Answer}
 use Rattle.channel.specs.Sender.{build_rows, sender_rows, change_rows, build_of}
-use Rattle.channel.specs.declared.sender.Built.{Built}
-use Rattle.channel.specs.declared.sender.SenderStep.{SenderStep}
+use Rattle.channel.specs.declared.ffi.Built.{Built}
+use Rattle.channel.specs.declared.ffi.SenderStep.{SenderStep}
 use Rattle.promises.proofs.Demands as Base
 use Rattle.promises.proofs.Marking.{inner_alone}
 use Rattle.rows.specs.Ends.{Ends, free_ends, with_receiver, with_sender}

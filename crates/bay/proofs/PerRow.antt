@@ -13,7 +13,7 @@ use Rattle.channel.specs.Receiver.{look, change, answer_to, state_after, open_re
 use Rattle.channel.specs.Rules.{outcome}
 use Rattle.channel.specs.Sender.{open_sender, build_of}
 use Rattle.channel.specs.declared.receiver.Receiver.{Receiver}
-use Rattle.channel.specs.declared.sender.Built.{Built}
+use Rattle.channel.specs.declared.ffi.Built.{Built}
 use Rattle.channel.specs.declared.sender.Sender.{Sender}
 use Rattle.promises.specs.Barred.{Barred}
 use Rattle.promises.specs.Distinct.{Distinct}

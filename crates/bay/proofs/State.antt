@@ -21,7 +21,7 @@ use Rattle.channel.specs.Receiver.{bad_receiver, look, answer_to}
 use Rattle.channel.specs.Rules.{state_rows, slot_rows, offer_rows, cipher_rows, marking_rows, rows}
 use Rattle.channel.specs.Sender.{new_sender, bad_sender, sender_rows, build_rows, change_rows, build_of, change_sender}
 use Rattle.channel.specs.declared.receiver.Receiver.{Receiver}
-use Rattle.channel.specs.declared.sender.Built.{Built}
+use Rattle.channel.specs.declared.ffi.Built.{Built}
 use Rattle.channel.specs.declared.sender.Sender.{Sender}
 use Rattle.promises.proofs.Demands as Base
 use Rattle.promises.proofs.Good.{good_whole, good_new}

@@ -5,7 +5,7 @@ use Rattle.record.specs.declared.setting.Setting.{Setting}
 use Rattle.channel.specs.Call.{Call, Answer}
 use Rattle.channel.specs.Sender.{build_of, build_out, change_sender}
 use Rattle.channel.specs.declared.receiver.Receiver.{Receiver}
-use Rattle.channel.specs.declared.sender.Built.{Built}
+use Rattle.channel.specs.declared.ffi.Built.{Built}
 use Rattle.channel.specs.declared.sender.Sender.{Sender}
 use Rattle.promises.specs.Run.{answers_of, reached}
 use Rattle.promises.specs.SendRun.{Send, turn_key, failed, sending, sender_after}

@@ -9,7 +9,7 @@ use lib.ListN.{length, take, drop, length-append}
 use lib.Seq.{take-add, take_at, drop_at}
 use Rattle.answers.specs.Table.{first}
 use Rattle.channel.specs.Sender.{build_out}
-use Rattle.channel.specs.declared.sender.Built.{Built}
+use Rattle.channel.specs.declared.ffi.Built.{Built}
 use Rattle.channel.specs.declared.sender.Sender.{Sender}
 use Rattle.record.specs.Header.{head_of}
 use Rattle.record.specs.Read.{record_rows}

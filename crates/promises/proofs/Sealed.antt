@@ -20,10 +20,10 @@ use Rattle.channel.specs.Rules.{granted, outcome}
 use Rattle.channel.specs.Sender.{build_rows, change_rows, built, build_of, build_out, change_sender}
 use Rattle.channel.specs.View.{View, count_at}
 use Rattle.channel.specs.declared.receiver.Receiver.{Receiver}
-use Rattle.channel.specs.declared.receiver.ReceiverStep.{ReceiverStep}
-use Rattle.channel.specs.declared.sender.Built.{Built}
+use Rattle.channel.specs.declared.ffi.ReceiverStep.{ReceiverStep}
+use Rattle.channel.specs.declared.ffi.Built.{Built}
 use Rattle.channel.specs.declared.sender.Sender.{Sender}
-use Rattle.channel.specs.declared.sender.SenderStep.{SenderStep}
+use Rattle.channel.specs.declared.ffi.SenderStep.{SenderStep}
 use Rattle.record.proofs.Zeros.{zeros_bad}
 use Rattle.record.specs.Setting.{bad_setting, open_rows}
 use Rattle.record.specs.Shape.{data_place, data_len}

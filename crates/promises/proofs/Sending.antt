@@ -16,9 +16,9 @@ use Rattle.answers.proofs.Given.{given_no, why_is}
 use Rattle.answers.proofs.Table.{first_within, row_passed}
 use Rattle.answers.proofs.Tests.{by_cases, or_neither}
 use Rattle.channel.specs.Sender.{bad_sender, spent, turn_to, built, sender_rows, build_rows, change_rows, build_of, build_out, change_sender, no_build}
-use Rattle.channel.specs.declared.sender.Built.{Built}
+use Rattle.channel.specs.declared.ffi.Built.{Built}
 use Rattle.channel.specs.declared.sender.Sender.{Sender}
-use Rattle.channel.specs.declared.sender.SenderStep.{SenderStep}
+use Rattle.channel.specs.declared.ffi.SenderStep.{SenderStep}
 use Rattle.octets.specs.Parts.{over}
 use Rattle.record.specs.Setting.{bad_setting}
 use Rattle.record.specs.Write.{form_rows, room_rows, front_of}

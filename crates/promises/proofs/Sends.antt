@@ -13,9 +13,9 @@ use borrow.Author.Tests.{eqb-true, eq-eqb, ne_eqb}
 use Rattle.answers.proofs.Tests.{true_not_false, by_cases}
 use Rattle.answers.specs.Table.{first}
 use Rattle.channel.specs.Sender.{spent, turn_to, open_sender, build_rows, change_rows, build_of, change_sender}
-use Rattle.channel.specs.declared.sender.Built.{Built}
+use Rattle.channel.specs.declared.ffi.Built.{Built}
 use Rattle.channel.specs.declared.sender.Sender.{Sender}
-use Rattle.channel.specs.declared.sender.SenderStep.{SenderStep}
+use Rattle.channel.specs.declared.ffi.SenderStep.{SenderStep}
 use Rattle.record.specs.Setting.{open_rows}
 use Rattle.record.specs.declared.setting.Setting.{Setting}
 use Rattle.promises.specs.Distinct.{Distinct, none, more}

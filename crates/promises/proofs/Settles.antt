@@ -17,7 +17,7 @@ use Rattle.channel.specs.Receiver.{look, answer_to, key_of}
 use Rattle.channel.specs.Rules.{state_rows, slot_rows, place_rows_at, offer_rows, cipher_rows, marking_rows, rows, granted}
 use Rattle.channel.specs.View.{Face, View, no_key, key_at, count_at, number_at}
 use Rattle.channel.specs.declared.receiver.Receiver.{Receiver}
-use Rattle.channel.specs.declared.sender.Built.{Built}
+use Rattle.channel.specs.declared.ffi.Built.{Built}
 use Rattle.channel.specs.declared.sender.Sender.{Sender}
 use Rattle.numbers.specs.Contract.{width_of, seen_by}
 use Rattle.numbers.specs.Number.{number_rows}

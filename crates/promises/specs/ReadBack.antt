@@ -6,7 +6,7 @@ use Rattle.channel.specs.Receiver.{look, answer_to}
 use Rattle.channel.specs.Sender.{build_of, build_out}
 use Rattle.channel.specs.View.{count_at}
 use Rattle.channel.specs.declared.receiver.Receiver.{Receiver}
-use Rattle.channel.specs.declared.sender.Built.{Built}
+use Rattle.channel.specs.declared.ffi.Built.{Built}
 use Rattle.channel.specs.declared.sender.Sender.{Sender}
 use Rattle.record.specs.View.{view_of}
 

@@ -7,7 +7,7 @@ use Rattle.channel.specs.Rules.{outcome}
 use Rattle.channel.specs.Sender.{open_sender, build_of, build_out}
 use Rattle.channel.specs.View.{View}
 use Rattle.channel.specs.declared.receiver.Receiver.{Receiver}
-use Rattle.channel.specs.declared.sender.Built.{Built}
+use Rattle.channel.specs.declared.ffi.Built.{Built}
 use Rattle.channel.specs.declared.sender.Sender.{Sender}
 use Rattle.record.specs.Shape.{mac_len}
 use Rattle.record.specs.declared.setting.Setting.{Setting}

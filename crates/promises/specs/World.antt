@@ -6,7 +6,7 @@ use Rattle.channel.specs.Call.{Call, offer, settle, gaps, change_key, drop_old}
 use Rattle.channel.specs.Receiver.{answer_to, state_after, open_receiver}
 use Rattle.channel.specs.Sender.{open_sender, build_of, build_out, change_sender}
 use Rattle.channel.specs.declared.receiver.Receiver.{Receiver}
-use Rattle.channel.specs.declared.sender.Built.{Built}
+use Rattle.channel.specs.declared.ffi.Built.{Built}
 use Rattle.channel.specs.declared.sender.Sender.{Sender}
 use Rattle.record.specs.Shape.{assoc_end}
 use Rattle.record.specs.declared.setting.Setting.{Setting}
