@@ -4,10 +4,10 @@ use Prim.Native.Nat.{ℕ}
 use mathlib.Core.List.{List}
 use mathlib.Core.Path.{◌≡◌}
 use Rattle.answers.proofs.OneAnswer.{OneAnswer, one}
-use Rattle.mctp.specs.declared.led.Wrote.{Wrote}
-use Rattle.controller.specs.declared.opening.Opened.{Opened}
-use Rattle.controller.specs.declared.receiving.Taken.{Taken}
-use Rattle.controller.specs.declared.sending.Sent.{Sent}
+use Rattle.mctp.specs.declared.ffi.Wrote.{Wrote}
+use Rattle.controller.specs.declared.ffi.Opened.{Opened}
+use Rattle.controller.specs.declared.ffi.Taken.{Taken}
+use Rattle.controller.specs.declared.ffi.Sent.{Sent}
 use Rattle.husk.proofs.sender.husk_open_sender.Reads as open-sender
 use Rattle.husk.proofs.sender.husk_build.Reads as build
 use Rattle.husk.proofs.sender.husk_change_sender.Reads as change-sender

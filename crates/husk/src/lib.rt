@@ -1,5 +1,6 @@
-// The C boundary: one thin function for each call. A yes from the host is the byte 1, since a bool
-// that is neither 0 nor 1 would be changed on its way in; any other byte is no.
+// The C boundary: one thin function for each call, with the types of include/hazelhusk.h. A yes from
+// the host is the byte 1, since a bool that is neither 0 nor 1 would be changed on its way in; any other
+// byte is no.
 #![tactic(auto)]
 
 mod receiver;

@@ -4,7 +4,7 @@ ghost use Rattle.record.specs.View.{view_of};
 ghost use Rattle.channel.specs.Receiver.{open_receiver, gaps_of, offer_of, settle_of, change_receiver, drop_of};
 
 use crate::sender::Iv;
-use channel::{Counted, Offered, Receiver, ReceiverStep, Settled};
+use channel::{Counted, Offered, Receiver, ReceiverStep, Settled, Verdict};
 use record::Setting;
 
 #[unsafe(no_mangle)]
@@ -12,21 +12,21 @@ pub extern "C" fn husk_open_receiver(setting: Setting, iv: Iv) -> ReceiverStep
     ensures { result ≡ open_receiver setting iv.bytes }
 {
     let bytes = iv.bytes;
-    Receiver::open(setting, bytes)
+    ReceiverStep::after(Receiver::zeros(), Receiver::open(setting, bytes))
 }
 
 #[unsafe(no_mangle)]
 pub extern "C" fn husk_gaps(receiver: Receiver, slot: u8) -> Counted
     ensures { result ≡ gaps_of receiver slot }
 {
-    receiver.gaps(slot)
+    receiver.gaps(slot).into()
 }
 
 #[unsafe(no_mangle)]
 pub extern "C" fn husk_offer(receiver: Receiver, rec: &[u8], slot: u8) -> Offered
     ensures { result ≡ offer_of receiver rec.now slot }
 {
-    receiver.offer(rec, slot)
+    receiver.offer(rec, slot).into()
 }
 
 #[unsafe(no_mangle)]
@@ -41,7 +41,15 @@ pub extern "C" fn husk_settle(
 ) -> Settled
     ensures { result ≡ settle_of receiver rec.now slot count number (eqb yes 1) plain.now }
 {
-    receiver.settle(rec, slot, count, number, yes == 1, plain)
+    let verdict = Verdict {
+        rec,
+        slot,
+        count,
+        number,
+        passed: yes == 1,
+        plain,
+    };
+    receiver.settle(verdict).into()
 }
 
 #[unsafe(no_mangle)]
@@ -49,14 +57,14 @@ pub extern "C" fn husk_change_receiver(receiver: Receiver, iv: Iv) -> ReceiverSt
     ensures { result ≡ change_receiver receiver iv.bytes }
 {
     let bytes = iv.bytes;
-    receiver.change_key(bytes)
+    ReceiverStep::after(receiver, receiver.change_key(bytes))
 }
 
 #[unsafe(no_mangle)]
 pub extern "C" fn husk_drop(receiver: Receiver) -> ReceiverStep
     ensures { result ≡ drop_of receiver }
 {
-    receiver.drop()
+    ReceiverStep::after(receiver, receiver.drop())
 }
 
 // The part is lent back through `out`, since C returns no slice.

@@ -17,14 +17,14 @@ pub extern "C" fn husk_open_sender(setting: Setting, iv: Iv) -> SenderStep
     ensures { result ≡ open_sender setting iv.bytes }
 {
     let bytes = iv.bytes;
-    Sender::open(setting, bytes)
+    SenderStep::after(Sender::zeros(), Sender::open(setting, bytes))
 }
 
 #[unsafe(no_mangle)]
 pub extern "C" fn husk_build(sender: Sender, app: &[u8], random: &[u8], out: &mut [u8]) -> Built
     ensures { (result ≡ build_of sender (length app.now) (length random.now) (length out.old)) × (out.new ≡ build_out sender app.now random.now out.old) }
 {
-    sender.build(app, random, out)
+    Built::after(sender, sender.build(app, random, out))
 }
 
 #[unsafe(no_mangle)]
@@ -32,5 +32,5 @@ pub extern "C" fn husk_change_sender(sender: Sender, iv: Iv) -> SenderStep
     ensures { result ≡ change_sender sender iv.bytes }
 {
     let bytes = iv.bytes;
-    sender.change_key(bytes)
+    SenderStep::after(sender, sender.change_key(bytes))
 }

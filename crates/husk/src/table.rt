@@ -9,7 +9,7 @@ ghost use Rattle.controller.specs.Words.{rows_of, enter_words, leave_words, rece
 ghost use Rattle.controller.specs.Answers.{taken, sent};
 
 use crate::sender::Iv;
-use channel::{Counted, Offered};
+use channel::{Counted, Offered, Verdict};
 use controller::{Opened, Sent, Table, Taken};
 use record::Setting;
 
@@ -19,21 +19,21 @@ pub extern "C" fn husk_table_open(table: &mut Table, setting: Setting, iv: Iv, i
 {
     let receiving = iv.bytes;
     let sending = iw.bytes;
-    controller::open(table, setting, receiving, sending)
+    Opened::from(controller::open(table, setting, receiving, sending))
 }
 
 #[unsafe(no_mangle)]
 pub extern "C" fn husk_table_close(table: &mut Table, row: u8) -> u8
     ensures { (result ≡ close_in (rows_of table.old) row) × (table.new ≡ leave_words table.old row) × (rows_of table.new ≡ table_after (rows_of table.old) (leave row)) }
 {
-    controller::close(table, row)
+    answers::code(controller::close(table, row))
 }
 
 #[unsafe(no_mangle)]
 pub extern "C" fn husk_table_offer(table: &Table, rec: &[u8], slot: u8) -> Offered
     ensures { result ≡ offered (receive_in (rows_of table.now) (session rec.now) (Call.offer rec.now slot)) }
 {
-    controller::offer(table, rec, slot)
+    Offered::from(controller::offer(table, rec, slot))
 }
 
 #[unsafe(no_mangle)]
@@ -48,7 +48,15 @@ pub extern "C" fn husk_table_settle(
 ) -> Taken
     ensures { (result ≡ taken (receive_in (rows_of table.old) (session rec.now) (Call.settle rec.now slot count number (eqb yes 1) plain.now))) × (table.new ≡ receive_words table.old (session rec.now) (Call.settle rec.now slot count number (eqb yes 1) plain.now)) × (rows_of table.new ≡ table_after (rows_of table.old) (receive (session rec.now) (Call.settle rec.now slot count number (eqb yes 1) plain.now))) }
 {
-    controller::settle(table, rec, slot, count, number, yes == 1, plain)
+    let verdict = Verdict {
+        rec,
+        slot,
+        count,
+        number,
+        passed: yes == 1,
+        plain,
+    };
+    Taken::from(controller::settle(table, verdict))
 }
 
 #[unsafe(no_mangle)]
@@ -61,14 +69,14 @@ pub extern "C" fn husk_table_build(
 ) -> Sent
     ensures { (result ≡ sent (build_in (rows_of table.old) row (length app.now) (length random.now) (length out.old))) × (out.new ≡ build_out_in (rows_of table.old) row app.now random.now out.old) × (table.new ≡ build_words table.old row (length app.now) (length random.now) (length out.old)) × (rows_of table.new ≡ table_after (rows_of table.old) (Calls.build row app.now random.now out.old)) }
 {
-    controller::build(table, row, app, random, out)
+    Sent::from(controller::build(table, row, app, random, out))
 }
 
 #[unsafe(no_mangle)]
 pub extern "C" fn husk_table_gaps(table: &Table, row: u8, slot: u8) -> Counted
     ensures { result ≡ counted (receive_in (rows_of table.now) (number row) (Call.gaps slot)) }
 {
-    controller::gaps(table, row, slot)
+    Counted::from(controller::gaps(table, row, slot))
 }
 
 #[unsafe(no_mangle)]
@@ -76,7 +84,7 @@ pub extern "C" fn husk_table_change_receiver(table: &mut Table, row: u8, iv: Iv)
     ensures { (result ≡ (receive_in (rows_of table.old) (number row) (Call.change_key iv.bytes)).code) × (table.new ≡ receive_words table.old (number row) (Call.change_key iv.bytes)) × (rows_of table.new ≡ table_after (rows_of table.old) (receive (number row) (Call.change_key iv.bytes))) }
 {
     let bytes = iv.bytes;
-    controller::change_receiver(table, row, bytes)
+    answers::code(controller::change_receiver(table, row, bytes))
 }
 
 #[unsafe(no_mangle)]
@@ -84,12 +92,12 @@ pub extern "C" fn husk_table_change_sender(table: &mut Table, row: u8, iv: Iv) -
     ensures { (result ≡ turn_in (rows_of table.old) row iv.bytes) × (table.new ≡ turn_words table.old row iv.bytes) × (rows_of table.new ≡ table_after (rows_of table.old) (turn row iv.bytes)) }
 {
     let bytes = iv.bytes;
-    controller::change_sender(table, row, bytes)
+    answers::code(controller::change_sender(table, row, bytes))
 }
 
 #[unsafe(no_mangle)]
 pub extern "C" fn husk_table_drop(table: &mut Table, row: u8) -> u8
     ensures { (result ≡ (receive_in (rows_of table.old) (number row) Call.drop_old).code) × (table.new ≡ receive_words table.old (number row) Call.drop_old) × (rows_of table.new ≡ table_after (rows_of table.old) (receive (number row) Call.drop_old)) }
 {
-    controller::drop(table, row)
+    answers::code(controller::drop(table, row))
 }

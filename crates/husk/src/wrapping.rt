@@ -9,14 +9,14 @@ use mctp::{Data, Wrote};
 pub extern "C" fn husk_wrap_data(integrity: u8, kind: u8, body: &[u8], out: &mut [u8]) -> Wrote
     ensures { (result, out.new) ≡ wrap_data (eqb integrity 1) kind body.now out.old }
 {
-    mctp::wrap_data(integrity == 1, kind, body, out)
+    mctp::wrap_data(integrity == 1, kind, body, out).into()
 }
 
 #[unsafe(no_mangle)]
 pub extern "C" fn husk_read_data(app: &[u8]) -> Data
     ensures { result ≡ read_data app.now }
 {
-    mctp::read_data(app)
+    mctp::read_data(app).into()
 }
 
 #[unsafe(no_mangle)]
@@ -30,14 +30,14 @@ pub extern "C" fn husk_body_of<'a>(app: &'a [u8], out: &mut &'a [u8])
 pub extern "C" fn husk_wrap_record(rec: &[u8], out: &mut [u8]) -> Wrote
     ensures { (result, out.new) ≡ wrap_record rec.now out.old }
 {
-    mctp::wrap_record(rec, out)
+    mctp::wrap_record(rec, out).into()
 }
 
 #[unsafe(no_mangle)]
 pub extern "C" fn husk_read_message(message: &[u8]) -> u8
     ensures { result ≡ read_message message.now }
 {
-    mctp::read_message(message)
+    answers::code(mctp::read_message(message))
 }
 
 #[unsafe(no_mangle)]
