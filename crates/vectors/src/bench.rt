@@ -1,35 +1,37 @@
 // One offer settled twice on the test bench's cable (request h).
-use crate::{print, records};
-use channel::{Receiver, Sender};
-use std::io;
+use crate::failure::Failure;
+use crate::settings;
+use channel::{Receiver, Sender, Settled, Verdict};
+use record::Setting;
 
-// Settles the offer of record 0 twice, under a limit of `limit`.
-fn twice(rt: &impl Print, name: &str, limit: u64) -> io::Result<()> {
-    let mut setting = records::on_the_bench(0);
-    setting.limit = limit;
-    let mut rec = [0u8; 25];
-    Sender::open(setting, [0; 12])
-        .next
-        .build(b"\xA0\xA1\xA2", b"", &mut rec);
-    let r = Receiver::open(setting, [0; 12]).next;
-    let offered = r.offer(&rec, 0);
-    let first = r.settle(&rec, 0, offered.count, offered.number, true, b"");
-    let second = first
-        .next
-        .settle(&rec, 0, offered.count, offered.number, true, b"");
-    print::text(rt, name)?;
-    print::text(rt, ": settle ")?;
-    print::number(rt, first.answer as u64)?;
-    print::text(rt, ", again ")?;
-    print::number(rt, second.answer as u64)?;
-    print::text(rt, ", ")?;
-    print::number(rt, first.length)?;
-    print::text(rt, " bytes from ")?;
-    print::number(rt, first.place)?;
-    print::text(rt, "\n")
-}
-
-pub(crate) fn settled_twice(rt: &impl Print) -> io::Result<()> {
-    twice(rt, "bench, one offer", 2)?;
-    twice(rt, "bench, one offer at the limit", 1)
+// Settles the offer of record 0 twice, under each limit.
+pub(crate) fn settled_twice(rt: &impl Print) -> Result<(), Failure> {
+    for (name, limit) in [
+        ("bench, one offer", 2),
+        ("bench, one offer at the limit", 1),
+    ] {
+        let setting = Setting {
+            limit,
+            ..settings::bench(0)
+        };
+        let mut rec = [0; 25];
+        Sender::open(setting, [0; 12])?.build(b"\xA0\xA1\xA2", b"", &mut rec)?;
+        let r = Receiver::open(setting, [0; 12])?;
+        let offer = r.offer(&rec, 0)?;
+        let verdict = Verdict {
+            rec: &rec,
+            slot: 0,
+            count: offer.count,
+            number: offer.number,
+            passed: true,
+            plain: b"",
+        };
+        let first = Settled::from(r.settle(verdict));
+        let second = Settled::from(first.next.settle(verdict));
+        println!(rt;
+            "{name}: settle {}, again {}, {} bytes from {}",
+            first.answer, second.answer, first.length, first.place
+        )?;
+    }
+    Ok(())
 }

@@ -1,15 +1,19 @@
 // What may stand inside a record and around it.
-use crate::print;
+use mctp::Data;
 use std::io;
 
 pub(crate) fn inner(rt: &impl Print) -> io::Result<()> {
-    print::answer(rt, "data 05", mctp::read_data(b"\x05").answer)?;
-    print::answer(rt, "data 85", mctp::read_data(b"\x85").answer)?;
-    print::answer(rt, "data 06", mctp::read_data(b"\x06").answer)?;
-    print::answer(rt, "data 86", mctp::read_data(b"\x86").answer)
+    for byte in [0x05, 0x85, 0x06, 0x86] {
+        let Data { answer, .. } = mctp::read_data(&[byte]).into();
+        println!(rt; "data {byte:02x}: {answer}")?;
+    }
+    Ok(())
 }
 
 pub(crate) fn outer(rt: &impl Print) -> io::Result<()> {
-    print::answer(rt, "message 06", mctp::read_message(b"\x06"))?;
-    print::answer(rt, "message 86", mctp::read_message(b"\x86"))
+    for byte in [0x06, 0x86] {
+        let answer = answers::code(mctp::read_message(&[byte]));
+        println!(rt; "message {byte:02x}: {answer}")?;
+    }
+    Ok(())
 }
