@@ -14,15 +14,12 @@ use Rattle.answers.proofs.Table.{first_past, first_stop, row_passed}
 use Rattle.answers.proofs.Given.{given_no, why_is, ok_is}
 use Rattle.octets.specs.Parts.{over}
 use Rattle.record.proofs.Heads.{head_most}
+use Rattle.record.proofs.Page.{mac_most}
 use Rattle.record.specs.declared.setting.Setting.{Setting}
 use Rattle.record.specs.Shape.{head_len, mac_len, inner_len, most_length}
 use Rattle.record.specs.Write.{Formed, good_form, length_for, total_for, form_rows, room_rows, form_of, no_form, write_of, front_of, written}
 
 -- the lengths are far from what a word can hold
-pub mac_most : (s : Setting) → mac_len s ≤ 16
-unfolding mac_len
-mac_most s = omega arith
-
 pub inner_most : (s : Setting) → inner_len s ≤ 2
 unfolding inner_len
 inner_most s = omega arith

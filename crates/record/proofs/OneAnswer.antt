@@ -5,7 +5,7 @@ use Rattle.std.specs.Prelude.{Result}
 use Rattle.answers.specs.declared.refusal.Refusal.{Refusal}
 use Rattle.answers.proofs.Answer.{answer_once}
 use Rattle.answers.proofs.OneAnswer.{OneAnswer, one}
-use Rattle.numbers.proofs.Laws.{placed_once}
+use Rattle.numbers.proofs.OneAnswer.{placed_once}
 use Rattle.record.specs.declared.reader.Record.{Record}
 use Rattle.record.specs.declared.writer.Form.{Form}
 use Rattle.record.specs.Read.{Reading}

@@ -20,6 +20,22 @@ pub struct Record {
     pub place: u64,
 }
 
+impl Record {
+    // The header's length, and without a partial number.
+    pub const HEADER: u64 = 8;
+
+    pub const BARE_HEADER: u64 = 6;
+
+    // The longest MAC.
+    pub const MAC: u64 = 16;
+
+    // The length of the field before the data in mode 1.
+    pub const INNER: u64 = 2;
+
+    // The largest Length.
+    pub const MOST: u64 = 65535;
+}
+
 impl<'a> Incoming<'a> {
     // The checks that take no key: 4 to 7.
     pub fn read(self) -> Result<Record, Refusal>

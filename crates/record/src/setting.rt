@@ -60,11 +60,8 @@ impl Setting {
     pub fn is_bad(self) -> bool
         ensures { result ≡ bad_setting self }
     {
-        let odd = (self.mac != 8) & (self.mac != 12) & (self.mac != 16);
-        let uneven = (self.width != 64)
-            & (self.width != 128)
-            & (self.width != 192)
-            & (self.width != 256);
+        let odd = !matches!(self.mac, 8 | 12 | 16);
+        let uneven = !matches!(self.width, 64 | 128 | 192 | 256);
         (1 < self.mode) | (1 < self.layout) | odd | (1 < self.profile) | uneven | (self.limit == 0)
     }
 

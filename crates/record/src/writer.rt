@@ -18,8 +18,9 @@ pub struct Form {
     pub total: u64,
 }
 
-// Whether the Length would be more than its field holds.
-#[tactic(auto, using(crate::proofs::Forms::mac_most, crate::proofs::Forms::inner_most, crate::proofs::Forms::length_most), unfolding(crate::specs::Write::body_len))]
+// Whether the Length would be more than its field holds. Here and below p and q are the lengths of the
+// data and of the random bytes: two numbers, which a struct of them would only name once more.
+#[tactic(auto, using(crate::proofs::Page::mac_most, crate::proofs::Forms::inner_most, crate::proofs::Forms::length_most), unfolding(crate::specs::Write::body_len))]
 fn oversize(setting: Setting, p: u64, q: u64) -> bool
     ensures { result ≡ ltb (most_length setting) (length_for setting p q) }
 {
@@ -37,7 +38,7 @@ fn oversize(setting: Setting, p: u64, q: u64) -> bool
     most < setting.inner_len() + p + q + mac
 }
 
-#[tactic(auto, using(crate::proofs::Forms::mac_most, crate::proofs::Forms::inner_most, crate::proofs::Forms::length_most), unfolding(crate::specs::Write::body_len))]
+#[tactic(auto, using(crate::proofs::Page::mac_most, crate::proofs::Forms::inner_most, crate::proofs::Forms::length_most), unfolding(crate::specs::Write::body_len))]
 fn body_len(setting: Setting, p: u64, q: u64) -> u64
     requires { length_for setting p q ≤ most_length setting }
     ensures { result ≡ body_len setting p q }
@@ -51,7 +52,7 @@ fn body_len(setting: Setting, p: u64, q: u64) -> u64
 
 impl Form {
     // For p bytes of data and q random bytes. The checks 15 and 16.
-    #[tactic(auto, using(crate::proofs::Heads::head_most, crate::proofs::Forms::mac_most, crate::proofs::Forms::length_most), unfolding(crate::specs::Write::form_of, crate::specs::Write::form_rows, crate::specs::Write::assoc_end_for))]
+    #[tactic(auto, using(crate::proofs::Heads::head_most, crate::proofs::Page::mac_most, crate::proofs::Forms::length_most), unfolding(crate::specs::Write::form_of, crate::specs::Write::form_rows, crate::specs::Write::assoc_end_for))]
     pub fn plan(setting: Setting, p: u64, q: u64) -> Result<Form, Refusal>
         ensures { as_formed result ≡ form_of setting p q }
     {
@@ -89,7 +90,8 @@ fn put_body(setting: Setting, app: &[u8], random: &[u8], out: &mut [u8])
 }
 
 // All of a record but its MAC at the start of `out`, where the form is good and there is room for
-// it: the checks 15 to 17.
+// it: the checks 15 to 17. Data, random bytes and buffer are three slices that C lends one by one, and
+// each is named once; a struct of them would lend a buffer for writing from inside.
 pub fn write(
     setting: Setting,
     number: u64,
