@@ -3,25 +3,23 @@
 use Prim.Native.Nat.{ℕ}
 use mathlib.Core.Bool.{Bool, true, false, not, ◌&&◌, and_assoc}
 use mathlib.Core.List.{List}
-use mathlib.Core.Path.{◌≡◌, refl, sym, ap, ap₂, ◌∙◌}
+use mathlib.Core.Path.{◌≡◌, refl, ap, ap₂}
 use native.Mathlib.Omega.{arith}
 use lib.ListN.{length}
 use lib.Dec.{eqb}
 use Rattle.std.specs.Prelude.{nat_eq}
-use Rattle.std.specs.Cmp.Lexicographic.{pointwise, same_text, other_text}
+use Rattle.std.specs.Cmp.Lexicographic.{pointwise}
 use Rattle.std.proofs.Math.Bool.{beq}
 use Rattle.answers.specs.Refusal as Refusal
 use Rattle.answers.specs.Refusal.{marks}
 use Rattle.answers.specs.Table.{first}
 use Rattle.answers.specs.Reasons.{Tells}
 use Rattle.answers.proofs.Tests.{tells_false, tells_eq, tells_and}
-use Rattle.octets.specs.Fields.{blank}
-use Rattle.octets.proofs.Blank.{blank_list}
+use Rattle.octets.proofs.Blank.{blank_list, blank_test}
 use Rattle.numbers.proofs.Laws.{Typed}
 use Rattle.numbers.proofs.Calls.{empty_test}
 use Rattle.numbers.proofs.Told.{empty_told}
 use Rattle.record.specs.declared.setting.Setting.{Setting}
-use Rattle.record.specs.Nonce.{zeros12}
 use Rattle.record.specs.Setting.{zero_setting, is_zero_setting, open_rows}
 use Rattle.record.proofs.Zeros.{zeros_bad, granted_not_zeros, zero_setting_lem, setting_test}
 use Rattle.channel.specs.declared.key.Key.{Key}
@@ -91,15 +89,6 @@ zero_sender_lem s t =
 
 -- ---- `==` at the zeros is the test of zeros
 
-blank_test : (iv : List ℕ) → length iv ≡ 12 → pointwise nat_eq iv zeros12 ≡ blank 12 iv
-unfolding blank
-blank_test iv h = go (pointwise nat_eq iv zeros12) (blank 12 iv) refl refl
-  where
-    go : (a b : Bool) → pointwise nat_eq iv zeros12 ≡ a → blank 12 iv ≡ b → a ≡ b
-    go true b p q = sym (ap (blank 12) (same_text iv zeros12 (sym p))) ∙ q
-    go false true p q = absurd (other_text iv zeros12 (sym p) ((blank_list 12 iv h).holds q))
-    go false false p q = refl
-
 -- field by field, as `==` goes
 abbrev same_settings : Setting → Setting → Bool
 same_settings s z =
@@ -121,7 +110,7 @@ same_sender s z = same_settings s.setting z.setting && (eqb s.count z.count && (
 
 pub key_test : (k : Key) {z : Key} → TypedKey k → z ≡ zero_key → same_key k z ≡ is_zero_key k
 unfolding is_zero_key
-key_test k t e = rw e (ap₂ (λ (x y : Bool). x && y) (blank_test k.iv t.iv) (empty_test k.window t.marks refl))
+key_test k t e = rw e (ap₂ (λ (x y : Bool). x && y) (blank_test 12 k.iv t.iv) (empty_test k.window t.marks refl))
 
 not_held : (b : Bool) → beq b false ≡ not b
 not_held true = refl
@@ -134,7 +123,7 @@ receiver_test r t u e =
 
 pub sender_test : (s : Sender) {z : Sender} → length s.iv ≡ 12 → z ≡ zero_sender → same_sender s z ≡ is_zero_sender s
 unfolding is_zero_sender is_zero_setting
-sender_test s t e = rw (e, setting_test s.setting zero_setting, blank_test s.iv t) (simp and_assoc)
+sender_test s t e = rw (e, setting_test s.setting zero_setting, blank_test 12 s.iv t) (simp and_assoc)
 
 -- ---- an opened state is never zero
 
