@@ -1,7 +1,7 @@
 -- The receiver of a row that was reached is asked, and put back where it changed.
 -- Assumes nothing.
 use Prim.Native.Nat.{ℕ}
-use mathlib.Core.Bool.{Bool, true, false, not, ◌&&◌, ◌||◌}
+use mathlib.Core.Bool.{true, false}
 use mathlib.Core.List.{List}
 use mathlib.Core.Path.{◌≡◌, refl, sym, ap, ◌∙◌}
 use lib.Dec.{T, eqb}
@@ -15,7 +15,10 @@ use Rattle.answers.proofs.Table.{unmarking, first_unmarking}
 use Rattle.answers.proofs.Tests.{by_cases, or_neither}
 use Rattle.channel.specs.Call.{Call, change_key, drop_old, Answer, only}
 use Rattle.channel.specs.Rules.{rows, state_rows}
+use Rattle.channel.specs.Receiver as Step
 use Rattle.channel.specs.Receiver.{look, answer_to, state_after}
+use Rattle.channel.specs.Told.{receiver_step}
+use Rattle.channel.specs.declared.ffi.ReceiverStep.{ReceiverStep}
 use Rattle.channel.specs.declared.receiver.Receiver.{Receiver}
 use Rattle.channel.proofs.Outcome.{code_of, answer_no, after_no}
 use Rattle.rows.specs.Ends.{Ends, free_ends, receiver_of, ends_of, with_receiver, put_receiver}
@@ -27,7 +30,7 @@ use Rattle.controller.specs.declared.door.Reach.{Reach}
 use Rattle.answers.specs.declared.refusal.Refusal.{Refusal}
 use Rattle.answers.specs.Answer.{number_of}
 use Rattle.answers.proofs.Answer.{number_some}
-use Rattle.std.specs.Prelude.{Ok, Err}
+use Rattle.std.specs.Prelude.{Result, Ok, Err}
 use Rattle.controller.proofs.Reaching.{rows_set, door_unmarking, door_why, door_found, ends_found}
 
 -- what answers neither 0 nor a refusal that marks keeps the receiver
@@ -37,6 +40,11 @@ receiver_kept r c h =
     let k : ℕ = (answer_to r c).code in
     let n = or_neither (eqb k 0) (marks k) h in
     after_no r c k (sym (code_of r c)) (eqb-false k 0 n.0) n.1
+
+-- a call that is granted changes the row
+zero_moves : authentic 0 ≡ true
+unfolding authentic
+zero_moves = refl
 
 -- of a call none of whose refusals marks
 refuses_plain : (r : Receiver) (c : Call) (k : ℕ) → k ≡ (answer_to r c).code → (k ≡ 0 → ⊥) → T (unmarking (rows (look r) c)) → authentic k ≡ false
@@ -124,6 +132,13 @@ module _ (w : List (List ℕ)) (d : Door) (c : Call) where
       let same = untouched way.1 in
       (way.0, same.0, same.1)
 
+  -- of a call that hands out a code alone
+  abbrev pub Steps : ℕ → List (List ℕ) → Type 0
+  Steps k w' = (k ≡ (receive_in t d c).code) × (w' ≡ receive_words w d c) × (rows_of w' ≡ table_after t (receive d c))
+
+  pub step_shut : (why : Refusal) → as_reached (Err why) ≡ reached_in w d → Steps (number_of why) w
+  step_shut why e = let s = way_shut why e in (ap (λ (x : Answer). x.code) s.0, s.1, s.2)
+
   -- the row is asked
   module _ (to : Reach) (e : as_reached (Ok to) ≡ reached_in w d) where
     pub row_asked : answer_to (receiver_of to.row.words) c ≡ receive_in t d c
@@ -145,16 +160,32 @@ module _ (w : List (List ℕ)) (d : Door) (c : Call) where
         let new = changed (as_reached (Ok to)) e refl a.code (ap (λ (y : Answer). y.code) told) moves next after x put.0 put.1 in
         (told ∙ row_asked, new.0, new.1)
 
--- ---- which answers of a row change it
+    -- a call that hands out a code alone, and none of whose refusals marks: refused, and granted
+    abbrev state : Receiver
+    state = receiver_of to.row.words
 
-pub zero_moves : authentic 0 ≡ true
-unfolding authentic
-zero_moves = refl
+    abbrev Told : Result Receiver Refusal → Type 0
+    Told step = receiver_step state step ≡ Step.changed (answer_to state c) (state_after state c)
 
-pub turn_refuses : (r : Receiver) (iv : List ℕ) (k : ℕ) → k ≡ (answer_to r (change_key iv)).code → (k ≡ 0 → ⊥) → authentic k ≡ false
+    pub step_keeps : (why : Refusal) → Told (Err why) → T (unmarking (rows (look state) c)) → Steps (number_of why) w
+    step_keeps why run quiet =
+        let told = ap (λ (y : ReceiverStep). y.answer) run in
+        let s = row_keeps (number_of why) told (refuses_plain state c (number_of why) told (number_some why) quiet) in
+        (ap (λ (x : Answer). x.code) s.0, s.1, s.2)
+
+    pub step_changes : (next : Receiver) → Told (Ok next) → (x : List ℕ)
+        → (x ≡ put_receiver to.row.words next) × (ends_of x ≡ with_receiver (ends_of to.row.words) next) → Steps 0 (set w to.at x)
+    step_changes next run x put =
+        let told = ap (λ (y : ReceiverStep). y.answer) run in
+        let s = row_changes (answer_to state c) refl (ap authentic (sym told) ∙ zero_moves) next (ap (λ (y : ReceiverStep). y.next) run) x put in
+        (told ∙ ap (λ (x : Answer). x.code) s.0, s.1, s.2)
+
+-- ---- no refusal of these calls marks
+
+pub turn_quiet : (r : Receiver) (iv : List ℕ) → T (unmarking (rows (look r) (change_key iv)))
 unfolding authentic marks rows state_rows
-turn_refuses r iv k e n = refuses_plain r (change_key iv) k e n tt
+turn_quiet r iv = tt
 
-pub drop_refuses : (r : Receiver) (k : ℕ) → k ≡ (answer_to r drop_old).code → (k ≡ 0 → ⊥) → authentic k ≡ false
+pub drop_quiet : (r : Receiver) → T (unmarking (rows (look r) drop_old))
 unfolding authentic marks rows state_rows
-drop_refuses r k e n = refuses_plain r drop_old k e n tt
+drop_quiet r = tt

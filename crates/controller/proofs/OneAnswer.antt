@@ -4,7 +4,6 @@ use Prim.Native.Nat.{ℕ}
 use mathlib.Core.List.{List}
 use mathlib.Core.Path.{◌≡◌, ap}
 use Rattle.std.specs.Prelude.{Result}
-use Rattle.answers.specs.Answer.{code_of}
 use Rattle.answers.specs.declared.refusal.Refusal.{Refusal}
 use Rattle.answers.proofs.Answer.{answer_once, code_once}
 use Rattle.answers.proofs.OneAnswer.{OneAnswer, one}

@@ -1,6 +1,6 @@
 -- The words that the table lies in: what a call that changes a row writes there. A refusal writes nothing.
 -- Assumes nothing.
-use Rattle.std.specs.Prelude.{ℕ, cond, List, map, eqb, get_or, set, replicate, Result}
+use Rattle.std.specs.Prelude.{ℕ, cond, List, map, eqb, get_or, set, replicate, Result, Option, position, Bool}
 use Rattle.answers.specs.Refusal.{authentic}
 use Rattle.answers.specs.Table.{first, given}
 use Rattle.answers.specs.Answer.{code_of, or_none}
@@ -22,6 +22,10 @@ no_words = replicate row_words 0
 
 abbrev pub rows_of : List (List ℕ) → List Ends
 rows_of w = map ends_of w
+
+-- the place of the lowest row that passes the test, where there is one
+abbrev pub first_row : (Ends → Bool) → List (List ℕ) → Option ℕ
+first_row p w = position (λ (x : List ℕ). p (ends_of x)) w
 
 abbrev pub words_at : List (List ℕ) → ℕ → List ℕ
 words_at w i = get_or w i no_words

@@ -5,6 +5,7 @@ ghost use Rattle.controller.specs.Words.{as_reached, reached_in};
 
 use crate::{scan, table};
 use answers::Refusal;
+use record::Record;
 use rows::Row;
 
 // The row, and its place in the table.
@@ -15,7 +16,7 @@ pub(crate) struct Reach {
 }
 
 // The length of the shortest header.
-const SHORTEST: usize = 6;
+const SHORTEST: usize = Record::BARE_HEADER as usize;
 
 // State, then Short, then Unknown.
 pub(crate) fn by_session(table: &[[u64; 26]], rec: &[u8]) -> Result<Reach, Refusal>

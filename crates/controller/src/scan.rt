@@ -1,8 +1,8 @@
 // What is asked of all rows.
-ghost use Rattle.std.specs.Prelude.{◌≡◌, position};
+ghost use Rattle.std.specs.Prelude.{◌≡◌};
 ghost use Rattle.rows.specs.Ends.{ends_of, is_free};
 ghost use Rattle.controller.specs.Table.{some, has, clashes, rises};
-ghost use Rattle.controller.specs.Words.{rows_of};
+ghost use Rattle.controller.specs.Words.{rows_of, first_row};
 
 use crate::table;
 
@@ -16,14 +16,14 @@ fn has_id(row: &[u64; 26], id: u32) -> bool
 
 // The lowest open row with this Session ID.
 pub(crate) fn find_open(table: &[[u64; 26]], id: u32) -> Option<usize>
-    ensures { result ≡ position (λ w. has id (ends_of w)) table.now }
+    ensures { result ≡ first_row (has id) table.now }
 {
     table.iter().position(|row| has_id(row, id))
 }
 
 // The lowest free row.
 pub(crate) fn find_free(table: &[[u64; 26]]) -> Option<usize>
-    ensures { result ≡ position (λ w. is_free (ends_of w)) table.now }
+    ensures { result ≡ first_row is_free table.now }
 {
     table.iter().position(|row| table::is_free(row))
 }

@@ -5,6 +5,8 @@ ghost use Rattle.controller.specs.Words.{words_at};
 
 use rows::Row;
 
+// Words, and no Vec or map of rows: C lends the table, and there is no heap. A row is named by its number
+// beside the table, as C names it.
 pub type Table = [[u64; 26]; 16];
 
 // A Session ID is below this: the bits above are padding.

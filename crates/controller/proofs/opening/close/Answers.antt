@@ -1,5 +1,5 @@
 use Rattle.std.proofs.Common.{rules, ◌≡◌, Ok, Err}
-use mathlib.Core.Path.{refl, ap, ◌∙◌}
+use mathlib.Core.Path.{refl}
 use Rattle.answers.proofs.Answer.{number_some}
 use Rattle.controller.proofs.Entering.{close_refused, close_frees}
 use Rattle.controller.proofs.opening.close.Goals as goal

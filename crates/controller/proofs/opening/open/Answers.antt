@@ -1,5 +1,5 @@
 use Rattle.std.proofs.Common.{rules, ◌≡◌, Ok, Err, Some, None}
-use mathlib.Core.Path.{refl, sym, ap, ◌∙◌}
+use mathlib.Core.Path.{sym, ap, ◌∙◌}
 use Rattle.answers.proofs.Answer.{number_some}
 use Rattle.answers.specs.declared.refusal.Refusal.TheVariants.{Rows}
 use Rattle.channel.specs.Sender.{new_sender}

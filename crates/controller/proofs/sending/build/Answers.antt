@@ -1,5 +1,5 @@
 use Rattle.std.proofs.Common.{rules, ◌≡◌, Ok, Err}
-use mathlib.Core.Path.{refl, ap, ◌∙◌}
+use mathlib.Core.Path.{refl, ◌∙◌}
 use Rattle.answers.proofs.Answer.{number_some}
 use Rattle.controller.proofs.Posting.{build_shut, build_refuses, build_changes}
 use Rattle.controller.proofs.sending.build.Goals as goal
