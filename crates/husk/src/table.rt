@@ -19,7 +19,7 @@ pub extern "C" fn husk_table_open(table: &mut Table, setting: Setting, iv: Iv, i
 {
     let receiving = iv.bytes;
     let sending = iw.bytes;
-    Opened::from(controller::open(table, setting, receiving, sending))
+    controller::open(table, setting, receiving, sending).into()
 }
 
 #[unsafe(no_mangle)]
@@ -33,7 +33,7 @@ pub extern "C" fn husk_table_close(table: &mut Table, row: u8) -> u8
 pub extern "C" fn husk_table_offer(table: &Table, rec: &[u8], slot: u8) -> Offered
     ensures { result ≡ offered (receive_in (rows_of table.now) (session rec.now) (Call.offer rec.now slot)) }
 {
-    Offered::from(controller::offer(table, rec, slot))
+    controller::offer(table, rec, slot).into()
 }
 
 #[unsafe(no_mangle)]
@@ -56,7 +56,7 @@ pub extern "C" fn husk_table_settle(
         passed: yes == 1,
         plain,
     };
-    Taken::from(controller::settle(table, verdict))
+    controller::settle(table, verdict).into()
 }
 
 #[unsafe(no_mangle)]
@@ -69,14 +69,14 @@ pub extern "C" fn husk_table_build(
 ) -> Sent
     ensures { (result ≡ sent (build_in (rows_of table.old) row (length app.now) (length random.now) (length out.old))) × (out.new ≡ build_out_in (rows_of table.old) row app.now random.now out.old) × (table.new ≡ build_words table.old row (length app.now) (length random.now) (length out.old)) × (rows_of table.new ≡ table_after (rows_of table.old) (Calls.build row app.now random.now out.old)) }
 {
-    Sent::from(controller::build(table, row, app, random, out))
+    controller::build(table, row, app, random, out).into()
 }
 
 #[unsafe(no_mangle)]
 pub extern "C" fn husk_table_gaps(table: &Table, row: u8, slot: u8) -> Counted
     ensures { result ≡ counted (receive_in (rows_of table.now) (number row) (Call.gaps slot)) }
 {
-    Counted::from(controller::gaps(table, row, slot))
+    controller::gaps(table, row, slot).into()
 }
 
 #[unsafe(no_mangle)]

@@ -9,18 +9,15 @@ use native.Mathlib.Omega.{arith}
 use lib.Dec.{leb, eqb}
 use lib.Pow.{pow_pos}
 use borrow.Author.Tests.{eqb-true}
-use Rattle.answers.specs.Refusal as Number
-use Rattle.answers.specs.declared.refusal.Refusal.{Refusal}
+use Rattle.answers.specs.Refusal as Refusal
 use Rattle.answers.specs.Table.{first, given}
 use Rattle.answers.proofs.Given.{why_is, ok_is}
-use Rattle.answers.proofs.Answer.{answer_once}
-use Rattle.std.specs.Prelude.{Result}
 use Rattle.numbers.specs.declared.window.Rule.{Rule}
 use Rattle.numbers.specs.declared.window.Window.{Window}
 use Rattle.numbers.specs.Number.{nearest, number_rows, gap_count}
 use Rattle.numbers.specs.Word.{most, word_of}
 use Rattle.numbers.specs.Window.{verdict, mark_next, mark_word, gaps}
-use Rattle.numbers.specs.Contract.{Placed, as_placed, width_of, window_of, empty_window, is_empty, seen_by, sound_window, no_place, judged, placed, after, gaps_of}
+use Rattle.numbers.specs.Contract.{Placed, width_of, window_of, empty_window, is_empty, seen_by, sound_window, no_place, judged, placed, after, gaps_of}
 use Rattle.numbers.specs.Memory.{member, plain_verdict, plain_gaps, Remembers, Below, after_all}
 pub use Rattle.numbers.proofs.Word.{Typed, made, word_at, four, typed_four, four_same, marks_four, none_is, zeros_none, none_zeros, word_lt}
 pub use Rattle.numbers.proofs.Adaptor.{width_pos, width_le, width_half, width_kept, next_after}
@@ -44,10 +41,6 @@ unfolding gaps_of gaps seen_by
 gaps_seen r s = refl
 
 -- ---- what is answered of a number
-
--- two results that are the same numbers are one
-pub placed_once : (x y : Result ℕ Refusal) → as_placed x ≡ as_placed y → x ≡ y
-placed_once x y e = answer_once 0 x y (ap (λ (p : Placed). p.answer) e) (ap (λ (p : Placed). p.number) e)
 
 abbrev taken : ℕ → Placed
 taken n = record { answer = 0; number = n }
@@ -86,7 +79,7 @@ unfolding seen_by verdict
 placed_verdict r s low = placed_answer r s low
 
 again_repeat : (w l e m low : ℕ) → 0 < w → m < 2 ^ w → low < 65536 → verdict w l e m (nearest e low) ≡ 0
-    → verdict w l (mark_next l e (nearest e low)) (mark_word w l e m (nearest e low)) (nearest (mark_next l e (nearest e low)) low) ≡ Number.repeat
+    → verdict w l (mark_next l e (nearest e low)) (mark_word w l e m (nearest e low)) (nearest (mark_next l e (nearest e low)) low) ≡ Refusal.repeat
 again_repeat w l e m low hw hm hlow a =
     let n = nearest e low in
     let z = verdict_zero w l e m n a in
@@ -138,7 +131,7 @@ module _ (r : Rule) (s : Window) (h : sound_window r s ≡ true) where
 
   -- what was placed and marked is Repeat when it is placed again
   pub placed_again : (low : ℕ) → low < 65536 → (placed r s low).answer ≡ 0
-      → (placed r (after r s (placed r s low).number) low).answer ≡ Number.repeat
+      → (placed r (after r s (placed r s low).number) low).answer ≡ Refusal.repeat
   placed_again low hlow a =
       let n = nearest s.next low in
       rw (placed_number r s low a) (placed_verdict r (after r s n) low ∙ rw (after_word r s n sound_fits, after_next r s n)

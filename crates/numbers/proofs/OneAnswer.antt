@@ -1,7 +1,12 @@
 -- For each public function: two answers that its contract allows are one.
 -- Assumes nothing.
+use Prim.Native.Nat.{ℕ}
+use mathlib.Core.Path.{◌≡◌, ap}
+use Rattle.std.specs.Prelude.{Result}
+use Rattle.answers.specs.declared.refusal.Refusal.{Refusal}
+use Rattle.answers.proofs.Answer.{answer_once}
 use Rattle.answers.proofs.OneAnswer.{OneAnswer, one}
-use Rattle.numbers.proofs.Laws.{placed_once}
+use Rattle.numbers.specs.Contract.{Placed, as_placed}
 use Rattle.numbers.proofs.marks.Marks.none.Reads as none
 use Rattle.numbers.proofs.marks.Marks.moved.Reads as moved
 use Rattle.numbers.proofs.marks.Marks.cut.Reads as cut
@@ -16,6 +21,10 @@ use Rattle.numbers.proofs.window.Window.place.Reads as place
 use Rattle.numbers.proofs.window.Window.judge.Reads as judge
 use Rattle.numbers.proofs.window.Window.mark.Reads as mark
 use Rattle.numbers.proofs.window.Window.gaps.Reads as gaps
+
+-- two results that are the same numbers are one
+pub placed_once : (x y : Result ℕ Refusal) → as_placed x ≡ as_placed y → x ≡ y
+placed_once x y e = answer_once 0 x y (ap (λ (p : Placed). p.answer) e) (ap (λ (p : Placed). p.number) e)
 
 -- ---- `Marks`
 
