@@ -129,3 +129,8 @@ marks_one κs a x y s t p q = one p q
 
 pub code_one : OneAnswer code.Post (λ κs x s. x)
 code_one κs a x y s t p q = one p q
+
+-- of `told`, whose contract is generic: what it says of two answers
+pub told_one : {A : Type 0} (r : Result A Refusal) (none : A) (x y : ℕ × A) → (x.0 ≡ code_of r) × (x.1 ≡ or_none none r)
+    → (y.0 ≡ code_of r) × (y.1 ≡ or_none none r) → x ≡ y
+told_one r none x y p q i = (one p.0 q.0 i, one p.1 q.1 i)

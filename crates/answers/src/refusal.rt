@@ -1,7 +1,7 @@
 // Why a call is refused.
 ghost use Rattle.std.specs.Prelude.{◌≡◌};
 ghost use Rattle.answers.specs.Refusal.{marks};
-ghost use Rattle.answers.specs.Answer.{number_of, code_of};
+ghost use Rattle.answers.specs.Answer.{number_of, code_of, or_none};
 
 // Its number is what C is told.
 #[derive(Clone, Copy, PartialEq, Eq, Debug)]
@@ -49,6 +49,16 @@ impl Refusal {
         ensures { result ≡ marks (number_of self) }
     {
         matches!(self, Refusal::Inner)
+    }
+}
+
+// What C is told of a result: 0 and what is handed out, or the refusal's number and this `none`.
+pub fn told<T: Copy>(answer: Result<T, Refusal>, none: T) -> (u8, T)
+    ensures { (result.0 ≡ code_of answer) × (result.1 ≡ or_none none answer) }
+{
+    match answer {
+        Ok(value) => (0, value),
+        Err(why) => (why.number(), none),
     }
 }
 

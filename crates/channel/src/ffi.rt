@@ -71,10 +71,7 @@ impl From<Result<u32, Refusal>> for Counted {
     ghost from_gives = { λ r c. c ≡ as_counted r };
 
     fn from(counted: Result<u32, Refusal>) -> Counted {
-        let (answer, gaps) = match counted {
-            Ok(gaps) => (0, gaps),
-            Err(why) => (why.number(), 0),
-        };
+        let (answer, gaps) = answers::told(counted, 0);
         Counted { answer, gaps }
     }
 }
@@ -83,10 +80,7 @@ impl From<Result<Offer, Refusal>> for Offered {
     ghost from_gives = { λ r o. o ≡ as_offered r };
 
     fn from(offered: Result<Offer, Refusal>) -> Offered {
-        let (answer, offer) = match offered {
-            Ok(offer) => (0, offer),
-            Err(why) => (why.number(), Offer::none()),
-        };
+        let (answer, offer) = answers::told(offered, Offer::none());
         let nonce = offer.nonce;
         Offered {
             answer,
@@ -104,10 +98,7 @@ impl From<(Result<Span, Refusal>, Receiver)> for Settled {
 
     fn from(settled: (Result<Span, Refusal>, Receiver)) -> Settled {
         let (settled, next) = settled;
-        let (answer, data) = match settled {
-            Ok(data) => (0, data),
-            Err(why) => (why.number(), Span::none()),
-        };
+        let (answer, data) = answers::told(settled, Span::none());
         Settled {
             answer,
             place: data.place,
@@ -122,10 +113,7 @@ impl ReceiverStep {
     pub fn after(receiver: Receiver, step: Result<Receiver, Refusal>) -> ReceiverStep
         ensures { result ≡ receiver_step receiver step }
     {
-        let (answer, next) = match step {
-            Ok(next) => (0, next),
-            Err(why) => (why.number(), receiver),
-        };
+        let (answer, next) = answers::told(step, receiver);
         ReceiverStep { answer, next }
     }
 }
@@ -135,10 +123,7 @@ impl SenderStep {
     pub fn after(sender: Sender, step: Result<Sender, Refusal>) -> SenderStep
         ensures { result ≡ sender_step sender step }
     {
-        let (answer, next) = match step {
-            Ok(next) => (0, next),
-            Err(why) => (why.number(), sender),
-        };
+        let (answer, next) = answers::told(step, sender);
         SenderStep { answer, next }
     }
 }
@@ -148,10 +133,7 @@ impl Built {
     pub fn after(sender: Sender, built: Result<(Draft, Sender), Refusal>) -> Built
         ensures { result ≡ as_built sender built }
     {
-        let (answer, draft, next) = match built {
-            Ok((draft, next)) => (0, draft, next),
-            Err(why) => (why.number(), Draft::none(), sender),
-        };
+        let (answer, (draft, next)) = answers::told(built, (Draft::none(), sender));
         let nonce = draft.nonce;
         Built {
             answer,

@@ -67,7 +67,8 @@ impl Receiver {
         !self.old.is_zero()
     }
 
-    // The key of a slot, where there is one: the check 3.
+    // The key of a slot, where there is one: the check 3. A slot is a number here and below and no enum,
+    // since C names it and any number has to be answered for.
     #[tactic(auto, unfolding(crate::specs::Look::key_there, crate::specs::Receiver::look, crate::specs::View::no_key))]
     pub(crate) fn key_at(self, slot: u8) -> Result<Key, Refusal>
         ensures { result ≡ key_there self slot }
@@ -116,11 +117,11 @@ impl Receiver {
             return Err(Refusal::Epochs);
         }
         Ok(Receiver {
-            setting: self.setting,
             count: self.count + 1,
             current: Key::fresh(iv),
             held: true,
             old: self.current,
+            ..self
         })
     }
 
@@ -136,11 +137,9 @@ impl Receiver {
             return Err(Refusal::Key);
         }
         Ok(Receiver {
-            setting: self.setting,
-            count: self.count,
-            current: self.current,
             held: false,
             old: Key::zeros(),
+            ..self
         })
     }
 }

@@ -121,10 +121,10 @@ impl Sender {
             return Err(Refusal::Epochs);
         }
         Ok(Sender {
-            setting: self.setting,
             count: self.count + 1,
             next: 0,
             iv,
+            ..self
         })
     }
 }

@@ -39,10 +39,7 @@ impl From<Result<u8, Refusal>> for Opened {
     ghost from_gives = { λ r o. o ≡ opened (as_opened r) };
 
     fn from(opened: Result<u8, Refusal>) -> Opened {
-        let (answer, row) = match opened {
-            Ok(row) => (0, row),
-            Err(why) => (why.number(), 0),
-        };
+        let (answer, row) = answers::told(opened, 0);
         Opened { answer, row }
     }
 }
@@ -51,10 +48,7 @@ impl From<Result<Span, Refusal>> for Taken {
     ghost from_gives = { λ r t. t ≡ as_taken r };
 
     fn from(taken: Result<Span, Refusal>) -> Taken {
-        let (answer, data) = match taken {
-            Ok(data) => (0, data),
-            Err(why) => (why.number(), Span::none()),
-        };
+        let (answer, data) = answers::told(taken, Span::none());
         Taken {
             answer,
             place: data.place,
@@ -67,10 +61,7 @@ impl From<Result<Draft, Refusal>> for Sent {
     ghost from_gives = { λ r s. s ≡ as_sent r };
 
     fn from(sent: Result<Draft, Refusal>) -> Sent {
-        let (answer, draft) = match sent {
-            Ok(draft) => (0, draft),
-            Err(why) => (why.number(), Draft::none()),
-        };
+        let (answer, draft) = answers::told(sent, Draft::none());
         let nonce = draft.nonce;
         Sent {
             answer,

@@ -30,6 +30,7 @@ pub fn open(table: &mut Table, setting: Setting, iv: [u8; 12], iw: [u8; 12]) -> 
     let blank = Row { words: [0; 26] };
     let half = blank.with_receiver(receiver);
     table::put_row(table, free, half.with_sender(sender));
+    // There are sixteen rows.
     Ok(free as u8)
 }
 

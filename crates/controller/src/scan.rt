@@ -32,7 +32,7 @@ pub(crate) fn find_free(table: &[[u64; 26]]) -> Option<usize>
 fn shared(rows: &[[u64; 26]], id: u32) -> bool
     ensures { result ≡ some (has id) (rows_of rows.now) }
 {
-    rows.iter().any(|row| has_id(row, id))
+    find_open(rows, id).is_some()
 }
 
 // Whether no row is split and the Session IDs of the open rows rise from row to row.

@@ -75,7 +75,7 @@ pub fn read_data(app: &[u8]) -> Result<Header, Refusal>
 }
 
 // The body of application data, or an empty part of it where `read_data` refuses it: what C is handed
-// lies in the buffer that it lent.
+// lies in the buffer that it lent, and it asks the reader why. No Result, since C takes a part in each case.
 #[tactic(auto, unfolding(crate::specs::Application::read_data, crate::specs::Application::unwrap_rows, crate::specs::Led::behind))]
 pub fn body_of(app: &[u8]) -> &[u8]
     ensures { result.now ≡ body_of app.now }

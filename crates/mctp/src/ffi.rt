@@ -19,10 +19,7 @@ impl From<Result<u64, Refusal>> for Wrote {
     ghost from_gives = { λ r w. w ≡ as_wrote r };
 
     fn from(written: Result<u64, Refusal>) -> Wrote {
-        let (answer, length) = match written {
-            Ok(length) => (0, length),
-            Err(why) => (why.number(), 0),
-        };
+        let (answer, length) = answers::told(written, 0);
         Wrote { answer, length }
     }
 }
@@ -40,14 +37,15 @@ impl From<Result<Header, Refusal>> for Data {
     ghost from_gives = { λ r d. d ≡ as_data r };
 
     fn from(read: Result<Header, Refusal>) -> Data {
-        let (answer, integrity, kind) = match read {
-            Ok(Header { integrity, kind }) => (0, integrity, kind),
-            Err(why) => (why.number(), false, 0),
+        let none = Header {
+            integrity: false,
+            kind: 0,
         };
+        let (answer, header) = answers::told(read, none);
         Data {
             answer,
-            integrity,
-            kind,
+            integrity: header.integrity,
+            kind: header.kind,
         }
     }
 }

@@ -29,7 +29,8 @@ pub fn read_message(message: &[u8]) -> Result<(), Refusal>
     Ok(())
 }
 
-// The record of a message, or an empty part of it where `read_message` refuses it.
+// The record of a message, or an empty part of it where `read_message` refuses it, as of
+// application data.
 #[tactic(auto, unfolding(crate::specs::Message::frame_rows, crate::specs::Led::behind))]
 pub fn record_of(message: &[u8]) -> &[u8]
     ensures { result.now ≡ record_of message.now }
