@@ -1,6 +1,7 @@
 // The C boundary: one thin function for each call, with the types of include/hazelhusk.h. A yes from
 // the host is the byte 1, since a bool that is neither 0 nor 1 would be changed on its way in; any other
-// byte is no.
+// byte is no. A channel's calls and a row's stay apart, since their names are exported, and those that
+// hand out nothing answer the byte alone.
 #![tactic(auto)]
 
 mod receiver;

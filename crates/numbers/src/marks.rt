@@ -38,7 +38,8 @@ impl Marks {
         x << by | below >> (Marks::WORD - by)
     }
 
-    // Moved up by fewer bits than a word has.
+    // Moved up by fewer bits than a word has. The four words are written out here and below: each takes
+    // from its neighbour, and no loop by an index is plainer.
     fn lifted(self, by: u64) -> Marks
         requires { by < 64 }
         ensures { result ≡ marks_of (word_of self * 2 ^ by % 2 ^ most) }
@@ -135,6 +136,7 @@ impl Marks {
         w[j] >> i % Marks::WORD & 1 == 1
     }
 
+    // Equality, as a call since its law speaks of the numbers that the words make.
     pub fn same(self, other: Marks) -> bool
         ensures { result ≡ eqb (word_of self) (word_of other) }
     {

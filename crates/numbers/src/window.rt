@@ -51,7 +51,8 @@ impl Window {
         Window { next: 0, marks }
     }
 
-    // Whether nothing is marked and nothing else is in it.
+    // Whether nothing is marked and nothing else is in it. No caller of ours is left; a public function
+    // keeps its promise.
     pub fn is_empty(self) -> bool
         ensures { result ≡ is_empty self }
     {
@@ -81,7 +82,8 @@ impl Window {
 
     // The number of a record with these low 16 bits, or why it is refused. RFC 9147, 4.2.2: of the
     // numbers on either side of next with these bits the nearer; on a tie the lower, and never a
-    // negative one.
+    // negative one. Sums and comparisons as that page has them, so that it can be read beside it, and no
+    // `checked_sub`.
     pub fn place(self, rule: Rule, low: u16) -> Result<u64, Refusal>
         ensures { as_placed result ≡ placed rule self low }
     {
@@ -155,7 +157,7 @@ impl Window {
         Window { next, marks: set }
     }
 
-    // How many of the last numbers below next, as many as the window remembers, are unmarked.
+    // How many of the last numbers below next, as many as the window remembers, are unmarked: at most 256.
     pub fn gaps(self, rule: Rule) -> u32
         ensures { result ≡ gaps_of rule self }
     {

@@ -11,8 +11,8 @@ fn byte(s: &[u8], at: usize) -> u8
     s.get(at).copied().unwrap_or(0)
 }
 
-// The two bytes at `at`, little-endian. Here and below they are written out, since a loop over `N`
-// of them compiled to slower code.
+// The two bytes at `at`, little-endian. Here and below they are written out: one function over the
+// count of them would answer a `u64`, which each caller narrows, and its loop compiled to slower code.
 #[tactic(auto, using(crate::proofs::Puts::field_from), unfolding(crate::specs::Fields::field))]
 pub fn little16(s: &[u8], at: usize) -> u16
     ensures { result ≡ field s.now at 2 }
@@ -45,7 +45,7 @@ pub fn bytes_of(n: u64) -> [u8; 8]
     n.to_le_bytes()
 }
 
-// Whether the twelve bytes are 0.
+// Whether the twelve bytes are 0. No caller of ours is left; a public function keeps its promise.
 pub fn blank12(s: [u8; 12]) -> bool
     ensures { result ≡ blank 12 s }
 {

@@ -25,7 +25,7 @@ abbrev pub TooSmall : Setting → List ℕ → Type 0
 TooSmall s r =
     ((s.mode ≡ 0) × (length_of s r < mac_len s)) ⊎ ((s.mode ≡ 0 → ⊥) × (length_of s r < inner_len s + mac_len s))
 
--- mode 1, data length above Length - 18, which is what is there behind the length field
+-- mode 1, data length above Length - 18 (less 2 and the MAC's, since request c), which is what is there behind the length field
 abbrev pub TooLong : Setting → List ℕ → List ℕ → Type 0
 TooLong s r plain = (s.mode ≡ 0 → ⊥) × (plain_len s r - inner_len s < data_len s r plain)
 

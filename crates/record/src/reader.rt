@@ -10,6 +10,8 @@ use crate::incoming::Incoming;
 use answers::Refusal;
 use numbers::Window;
 
+// Lengths and places are u64 in every answer, so that C's structs have one layout on every machine: hence
+// the casts from usize and to it, which no `From` has.
 // What is read of a record before any key is looked at: the ends of the associated data and of the
 // text, the length of the plaintext buffer, and the place of the data.
 #[derive(Clone, Copy)]
