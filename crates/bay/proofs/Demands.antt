@@ -98,8 +98,8 @@ pub delivery_finds : (n : ℕ) (cs : List TableCall) (j : ℕ) (r : List ℕ) �
     Open (row_at t j) → id_of (row_at t j) ≡ id_in r → place t (session r) ≡ j
 delivery_finds n cs = Apart.delivers _ (Apart.fine_from_empty n cs)
 
--- Where rows do not clash, the calls that reach row i are: by number those with its number, if it is open; by Session ID those whose record has
--- 8 bytes or more and its Session ID, if it is open.
+-- Where rows do not clash, the calls that reach row i are: by number those with its number, if it is open; by Session ID those whose record is no
+-- shorter than the shortest header (6 bytes, since request h) and has its Session ID, if it is open.
 pub number_reaches : (i : ℕ) (t : List Ends) → clashes t ≡ false → (c : Call) (j : ℕ)
     → Tells (reaches i t (receive (number j) c)) ((j ≡ i) × Open (row_at t i))
 number_reaches = Reaching.number_reaches

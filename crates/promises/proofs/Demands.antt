@@ -235,7 +235,7 @@ wire_is_buffer = FramePasses.wire_own
 -- ======== 3.
 
 -- T1. Over any run of receive calls, key changes and drops from a new channel, each given the state the last one returned, the receiver with
--- its 64-number window answers as a plain receiver that remembers every authenticated number of every key and has the same age rule.
+-- its 64-number window (since request f of the setting's width) answers as a plain receiver that remembers every authenticated number of every key and has the same age rule.
 pub answers_as_plain : (s : Setting) (iv : List ℕ) (calls : List Call)
     → answers_of (open_receiver s iv).next calls ≡ plain_answers (open_plain s iv) calls
 answers_as_plain = Simulation.as_plain
@@ -314,10 +314,11 @@ never_old = Second.never_old
 pub never_repeat : (x : Receiver) → has_partial x.setting ≡ false → (c : Call) → (answer_to x c).code ≢ Refusal.repeat
 never_repeat = Second.never_repeat
 
--- Settling one offer twice is Stale, or Spent at the limit: the first time it answered 0 or 14.
+-- Settling one offer twice is Stale, or Spent at the limit: the first time it answered 0 or 14, and the second time the cipher may say what it
+-- will, with whatever text.
 pub settled_twice : (x : Receiver) (r : List ℕ) (slot count n : ℕ) (passed : Bool) (plain : List ℕ) → has_partial x.setting ≡ false
-    → authentic (answer_to x (settle r slot count n passed plain)).code ≡ true
-    → (answer_to (state_after x (settle r slot count n passed plain)) (settle r slot count n passed plain)).code
+    → authentic (answer_to x (settle r slot count n passed plain)).code ≡ true → (again : Bool) (text : List ℕ)
+    → (answer_to (state_after x (settle r slot count n passed plain)) (settle r slot count n again text)).code
     ≡ cond (leb x.setting.limit (n + 1)) Refusal.spent Refusal.stale
 settled_twice = Second.settled_twice
 

@@ -150,10 +150,12 @@ module _ (x : Receiver) (r : List ℕ) (slot count n : ℕ) (passed : Bool) (pla
       let e : (key_of x slot).window.next ≡ n = ap (λ (k : Face). k.next) (sym (face_at x slot)) ∙ sym (was.cipher.same_number ∙ next_number x h r slot) in
       ap (λ (k : Face). k.next) (face_at y slot) ∙ marked_just.next ∙ omega arith
 
-  -- made again on the state that it returned it is Stale, or Spent where its number was the last
-  pub settled_twice : (answer_to y (settle r slot count n passed plain)).code ≡ cond (leb x.setting.limit (n + 1)) Refusal.spent Refusal.stale
+  -- made again on the state that it returned, whatever the cipher then says and with whatever text, it is Stale, or Spent where its number was
+  -- the last
+  pub settled_twice : (again : Bool) (text : List ℕ)
+      → (answer_to y (settle r slot count n again text)).code ≡ cond (leb x.setting.limit (n + 1)) Refusal.spent Refusal.stale
   unfolding answer_to look
-  settled_twice =
+  settled_twice again text =
       settle_other (look y) r slot good_after key_after framed_after (next_number y (rw marked_just.setting h) r slot) (unseen y slot)
-      count n passed plain (λ z. omega (arith, next_after))
+      count n again text (λ z. omega (arith, next_after))
       ∙ rw (next_after, marked_just.setting)

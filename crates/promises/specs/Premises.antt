@@ -37,7 +37,7 @@ pub record CanBuild (s : Sender) (app random out : List ℕ) : Type 0 where
 pub record CanTake (r : Receiver) (slot : ℕ) (s : Sender) : Type 0 where
   -- it is not State
   pub state : BadReceiver r → ⊥
-  -- it is set as the sender is
+  -- it is set as the sender is: mode, layout, the MAC's length, profile, width, Session ID and limit
   pub alike : r.setting ≡ s.setting
   -- slot 0, or an old key is held
   pub there : (slot ≡ 0) ⊎ ((slot ≡ 1) × (r.held ≡ true))

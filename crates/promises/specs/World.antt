@@ -141,7 +141,7 @@ pub record SealedBefore {K : Type 0} (sendKey : ℕ → K) (w : World) (key : K)
 module _ {K : Type 0} (C : Cipher K) (sendKey receiveKey : ℕ → K) where
   -- what is assumed of a Settle of the run, with the world that the steps before it left
   pub record Honest (w : World) (r : List ℕ) (count number : ℕ) (passed : Bool) (plain : List ℕ) : Type 0 where
-    -- both ends are set alike: they have the same setting, and the same key for each key count of the run
+    -- both ends are set alike: they have the same setting, the MAC's length and the layout with it, and the same key for each key count of the run
     pub alike : (w.sender.setting ≡ w.receiver.setting) × ((c : ℕ) → c ≤ counts_of w → sendKey c ≡ receiveKey c)
     -- no key is used again after a change: among the key counts of the run equal keys have equal counts
     pub no_reuse : (a b : ℕ) → a ≤ counts_of w → b ≤ counts_of w → sendKey a ≡ sendKey b → a ≡ b
