@@ -43,12 +43,15 @@ fn reading_beside() {
     race("offer+settle 64B vs 65000B", FEW, || receive::ours(&short), || receive::ours(&long));
 }
 
-/// Reading with the widest window, against the usual one and against the quick reference.
+/// Reading with each wider window against the usual one, and with the widest against the quick reference.
 fn reading_wide() {
     let set = Set::new(1, 64, &in_order(RECORDS));
-    let name = "offer+settle 64B in order, width 256";
-    race(&format!("{name} / width 64"), RECORDS, || receive::wide(&set, 256), || receive::ours(&set));
-    race(&format!("{name} / Rust"), RECORDS, || receive::wide(&set, 256), || receive::fast_wide(&set, 256));
+    for width in [128, 192, 256] {
+        let name = format!("offer+settle 64B in order, width {width} / width 64");
+        race(&name, RECORDS, || receive::wide(&set, width), || receive::ours(&set));
+    }
+    let name = "offer+settle 64B in order, width 256 / Rust";
+    race(name, RECORDS, || receive::wide(&set, 256), || receive::fast_wide(&set, 256));
 }
 
 /// Reading in a full table, against one channel and against the quick reference.
