@@ -12,7 +12,7 @@ pub type Table = [[u64; 26]; 16];
 // A Session ID is below this: the bits above are padding.
 const HALF: u64 = 4294967296;
 
-// Of a row, without a copy of it: its Session ID,
+// Of a row where it lies: its Session ID,
 #[tactic(auto, unfolding(rows::specs::Ends::receiver_of))]
 pub(crate) fn id_of(row: &[u64; 26]) -> u32
     ensures { result ≡ id_of (ends_of row.now) }
@@ -28,7 +28,7 @@ pub(crate) fn is_split(row: &[u64; 26]) -> bool
     row[Row::ID] % HALF != row[Row::PEER_ID] % HALF
 }
 
-// and whether it is free: a row in use has a limit, so one look mostly tells.
+// and whether it is free: a row in use has a limit, so one look mostly tells, without a copy of the row.
 #[tactic(auto, using(rows::proofs::Laws::limit_not_free), unfolding(rows::specs::Ends::receiver_of))]
 pub(crate) fn is_free(row: &[u64; 26]) -> bool
     ensures { result ≡ is_free (ends_of row.now) }
