@@ -1,5 +1,5 @@
 // Parts of a slice, and bytes put into one.
-ghost use Rattle.std.specs.Prelude.{◌≡◌, drop};
+ghost use Rattle.std.specs.Prelude.{◌≡◌, drop, length};
 ghost use Rattle.octets.specs.Fields.{little};
 ghost use Rattle.octets.specs.Parts.{part, put};
 
@@ -17,7 +17,18 @@ pub fn part(s: &[u8], start: usize, len: usize) -> &[u8]
     ensures { result.now ≡ part s.now start len }
 {
     let rest = from(s, start);
-    rest.get(..len).unwrap_or(&rest[..0])
+    rest.get(..len).unwrap_or(&s[..0])
+}
+
+// `src` over all of `to`. A loop, since `copy_from_slice` calls `memmove` of the C library, which the
+// archive is not to need.
+fn copy(to: &mut [u8], src: &[u8])
+    requires { length to.old ≡ length src.now }
+    ensures { to.new ≡ src.now }
+{
+    for (i, byte) in to.iter_mut().enumerate() {
+        *byte = src[i];
+    }
 }
 
 // `src` into `out` from `at`, or nothing where it does not fit.
@@ -26,7 +37,7 @@ pub fn put(out: &mut [u8], at: usize, src: &[u8])
     ensures { out.new ≡ put out.old at src.now }
 {
     if at <= out.len() && src.len() <= out.len() - at {
-        out[at..at + src.len()].copy_from_slice(src);
+        copy(&mut out[at..at + src.len()], src);
     }
 }
 
