@@ -11,6 +11,11 @@ use Rattle.answers.proofs.OneAnswer.{OneAnswer, one}
 use Rattle.answers.proofs.refusal.Refusal.number.Reads as number
 use Rattle.answers.proofs.refusal.Refusal.marks.Reads as marks
 use Rattle.answers.proofs.refusal.code.Reads as code
+use Rattle.answers.proofs.refusal.told.Reads as told
+use denote.RattleType.{RattleType}
+use denote.Param.Laws.{Laws, IsCopy}
+use mir.Syntax.{Dict}
+use Rattle.std.specs.declared.clone.Clone.{Ghosts}
 use Rattle.answers.specs.Answer.{number_of, code_of, or_none}
 use Rattle.answers.specs.declared.refusal.Refusal.{Refusal}
 use Rattle.answers.specs.declared.refusal.Refusal.TheVariants.{State, Setting, Key, Short, Session, Length, Small, Spent, Old, Repeat, Stale, Plain, Mac, Inner, Padding, Size, Room, Held, Epochs, Wrapped, Frame, Twice, Rows, Unknown}
@@ -130,7 +135,6 @@ marks_one κs a x y s t p q = one p q
 pub code_one : OneAnswer code.Post (λ κs x s. x)
 code_one κs a x y s t p q = one p q
 
--- of `told`, whose contract is generic: what it says of two answers
-pub told_one : {A : Type 0} (r : Result A Refusal) (none : A) (x y : ℕ × A) → (x.0 ≡ code_of r) × (x.1 ≡ or_none none r)
-    → (y.0 ≡ code_of r) × (y.1 ≡ or_none none r) → x ≡ y
-told_one r none x y p q i = (one p.0 q.0 i, one p.1 q.1 i)
+-- whatever is handed out
+pub told_one : (T : RattleType) (l : Laws T) (c : IsCopy T) (g : Ghosts T.Denot) (d : Dict) → OneAnswer (told.Post T l c g d) (λ κs x s. x)
+told_one T l c g d κs a x y s t p q i = (one p.0 q.0 i, one p.1 q.1 i)
