@@ -44,7 +44,7 @@ pub(crate) fn by_number(table: &[[u64; 26]], row: u8) -> Result<Reach, Refusal>
     }
     let at = usize::from(row);
     let row = table::row_at(table, at);
-    if row.is_free() {
+    if table::is_free(&row.words) {
         return Err(Refusal::Unknown);
     }
     Ok(Reach { at, row })

@@ -28,7 +28,7 @@ pub(crate) fn is_split(row: &[u64; 26]) -> bool
     row[Row::ID] % HALF != row[Row::PEER_ID] % HALF
 }
 
-// and whether it is free: a row in use has a limit, so one look mostly tells, without a copy of the row.
+// and whether it is free: a row in use has a limit, so one look mostly tells.
 #[tactic(auto, using(rows::proofs::Laws::limit_not_free), unfolding(rows::specs::Ends::receiver_of))]
 pub(crate) fn is_free(row: &[u64; 26]) -> bool
     ensures { result ≡ is_free (ends_of row.now) }
@@ -36,6 +36,14 @@ pub(crate) fn is_free(row: &[u64; 26]) -> bool
     if row[Row::LIMIT] != 0 {
         return false;
     }
+    is_blank(row)
+}
+
+// The same by all its words. Out of line, so that the look at the limit stands in the scans themselves.
+#[inline(never)]
+fn is_blank(row: &[u64; 26]) -> bool
+    ensures { result ≡ is_free (ends_of row.now) }
+{
     Row { words: *row }.is_free()
 }
 

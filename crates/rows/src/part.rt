@@ -1,6 +1,9 @@
 // The parts of an end and their words. A word is cut to what its field holds: the bits above are
 // padding.
 ghost use Rattle.std.specs.Prelude.{◌≡◌, get_or};
+ghost use Rattle.octets.specs.Fields.{blank};
+ghost use Rattle.record.specs.Setting.{is_zero_setting};
+ghost use Rattle.channel.specs.Key.{is_zero_key};
 ghost use Rattle.rows.specs.Part.{setting_of, count_of, iv_of, four_at, key_of, setting_words, iv_words, key_words};
 
 use channel::Key;
@@ -12,6 +15,9 @@ const PAIR: u64 = 65536;
 
 // What half a word holds is below this.
 const HALF: u64 = 4294967296;
+
+// What six bytes hold is below this.
+const SIX: u64 = 281474976710656;
 
 // The mode, the layout, the MAC's length, the profile and the width share a word. The width by its
 // quotient: put together from two bytes, the word was spilled, and writing it back took 6 ns more.
@@ -56,6 +62,32 @@ pub(crate) fn key_of(head: u64, tail: u64, next: u64, words: [u64; 4]) -> Key
             marks: Marks { words },
         },
     }
+}
+
+// Here and below: whether a part is all zeros, seen at its words. To make it and ask `==` took twice as long.
+#[tactic(auto, using(crate::proofs::Zeros::zero_setting_test))]
+pub(crate) fn is_zero_setting(head: u64, session: u64, limit: u64) -> bool
+    ensures { result ≡ is_zero_setting (setting_of head session limit) }
+{
+    (head % SIX == 0) & (session % HALF == 0) & (limit == 0)
+}
+
+#[tactic(auto, using(crate::proofs::Zeros::zero_iv_test))]
+pub(crate) fn is_zero_iv(head: u64, tail: u64) -> bool
+    ensures { result ≡ blank 12 (iv_of head tail) }
+{
+    (head == 0) & (tail % HALF == 0)
+}
+
+#[tactic(auto, unfolding(channel::specs::Key::is_zero_key))]
+pub(crate) fn is_zero_key(head: u64, tail: u64, next: u64, words: [u64; 4]) -> bool
+    ensures { result ≡ is_zero_key (key_of head tail next words) }
+{
+    let window = Window {
+        next,
+        marks: Marks { words },
+    };
+    is_zero_iv(head, tail) & window.is_empty()
 }
 
 // Here and below: the words written, and that they are read back as what was written.

@@ -73,7 +73,8 @@ impl Row {
         Row { words }
     }
 
-    // Whether it is all zeros. A row in use has a limit, so one look mostly tells.
+    // Whether it is all zeros, but for what padding holds. A row in use has a limit, so one look mostly tells.
+    #[tactic(auto, unfolding(crate::specs::Ends::is_free, crate::specs::Ends::receiver_of, crate::specs::Ends::sender_of, channel::specs::Receiver::is_zero_receiver, channel::specs::Sender::is_zero_sender))]
     pub fn is_free(self) -> bool
         ensures { result ≡ is_free (ends_of self.words) }
     {
@@ -81,6 +82,15 @@ impl Row {
         if w[2] != 0 {
             return false;
         }
-        self.receiver() == Receiver::zeros() && self.sender() == Sender::zeros()
+        let receiver = part::is_zero_setting(w[0], w[1], w[2])
+            & (part::count_of(w[3]) == 0)
+            & part::is_zero_key(w[4], w[5], w[6], [w[7], w[8], w[9], w[10]])
+            & (w[11] % 2 != 1)
+            & part::is_zero_key(w[12], w[13], w[14], [w[15], w[16], w[17], w[18]]);
+        let sender = part::is_zero_setting(w[19], w[20], w[21])
+            & (part::count_of(w[22]) == 0)
+            & (w[23] == 0)
+            & part::is_zero_iv(w[24], w[25]);
+        receiver & sender
     }
 }
