@@ -42,9 +42,9 @@ receiver_kept r c h =
     after_no r c k (sym (code_of r c)) (eqb-false k 0 n.0) n.1
 
 -- a call that is granted changes the row
-zero_moves : authentic 0 ≡ true
+pub zero_moves : (k : ℕ) → k ≡ 0 → authentic k ≡ true
 unfolding authentic
-zero_moves = refl
+zero_moves k e = rw e refl
 
 -- of a call none of whose refusals marks
 refuses_plain : (r : Receiver) (c : Call) (k : ℕ) → k ≡ (answer_to r c).code → (k ≡ 0 → ⊥) → T (unmarking (rows (look r) c)) → authentic k ≡ false
@@ -177,7 +177,7 @@ module _ (w : List (List ℕ)) (d : Door) (c : Call) where
         → (x ≡ put_receiver to.row.words next) × (ends_of x ≡ with_receiver (ends_of to.row.words) next) → Steps 0 (set w to.at x)
     step_changes next run x put =
         let told = ap (λ (y : ReceiverStep). y.answer) run in
-        let s = row_changes (answer_to state c) refl (ap authentic (sym told) ∙ zero_moves) next (ap (λ (y : ReceiverStep). y.next) run) x put in
+        let s = row_changes (answer_to state c) refl (ap authentic (sym told) ∙ zero_moves 0 refl) next (ap (λ (y : ReceiverStep). y.next) run) x put in
         (told ∙ ap (λ (x : Answer). x.code) s.0, s.1, s.2)
 
 -- ---- no refusal of these calls marks

@@ -1,4 +1,5 @@
 pub mod Scanning
+pub mod Places
 pub mod Rising
 pub mod Reaching
 pub mod Asking
