@@ -39,8 +39,10 @@ pub(crate) fn is_free(row: &[u64; 26]) -> bool
     is_blank(row)
 }
 
-// The same by all its words. Out of line, so that the look at the limit stands in the scans themselves.
+// The same by all its words. Out of line and cold, so that the look at the limit stands in the scans
+// themselves, and a full table goes straight on.
 #[inline(never)]
+#[cold]
 fn is_blank(row: &[u64; 26]) -> bool
     ensures { result ≡ is_free (ends_of row.now) }
 {
