@@ -1,7 +1,6 @@
 /* Hazelhusk 1.5: SPDM secured records over MCTP, for C.
  *
- * Link target/staticlib/libhusk.a. It needs no heap and no global state, and of the C library memcpy and
- * memmove alone.
+ * Link target/staticlib/libhusk.a. It needs no heap and no global state, and of the C library memcpy alone.
  *
  * A sender builds records and a receiver reads them; the cipher is yours. Each function below takes a
  * pointer to the state and updates it in place on every return, so the state can't be lost. Each
