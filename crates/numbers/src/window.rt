@@ -51,8 +51,7 @@ impl Window {
         Window { next: 0, marks }
     }
 
-    // Whether nothing is marked and nothing else is in it. No caller of ours is left; a public function
-    // keeps its promise.
+    // Whether nothing is marked and nothing else is in it.
     pub fn is_empty(self) -> bool
         ensures { result ≡ is_empty self }
     {
