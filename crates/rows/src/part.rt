@@ -64,7 +64,7 @@ pub(crate) fn key_of(head: u64, tail: u64, next: u64, words: [u64; 4]) -> Key
     }
 }
 
-// Here and below: whether a part is all zeros, seen at its words. To make it and ask `==` took twice as long.
+// Here and below: whether a part is all zeros, seen at its words. To make it and ask `==` took three times as long.
 #[tactic(auto, using(crate::proofs::Zeros::zero_setting_test))]
 pub(crate) fn is_zero_setting(head: u64, session: u64, limit: u64) -> bool
     ensures { result ≡ is_zero_setting (setting_of head session limit) }
